@@ -6,6 +6,7 @@ FNR == NR { root[++roots] = $0; next }
 { if ($0 ~ /\.rt$/) calls[++call_files] = $0; else files[++file_count] = $0 }
 
 END {
+    read_prelude("crates/laws/specs/Prelude.antt")
     for (k = 1; k <= file_count; k++) read_file(files[k])
     print_row("", "files", "texts", "lines")
     for (k = 1; k <= roots; k++) read_root(root[k])
@@ -29,8 +30,23 @@ function file_of(module) {
     return "crates/" module ".antt"
 }
 
+# Records which module of the toolchain's library each name of the prelude comes from.
+function read_prelude(file,    line, module, names, count, k) {
+    while ((getline line < file) > 0) {
+        if (line !~ /^pub use .*\{/) continue
+        module = line
+        sub(/^pub use /, "", module)
+        sub(/\.\{.*/, "", module)
+        sub(/^[^{]*\{/, "", line)
+        sub(/\}.*/, "", line)
+        count = split(line, names, /, */)
+        for (k = 1; k <= count; k++) passed_on[names[k]] = module
+    }
+    close(file)
+}
+
 # Records where the names of a `use` line come from.
-function read_use(file, line,    module, names, count, k) {
+function read_use(file, line,    module, source, names, count, k) {
     if (line !~ /\{/) return
     sub(/^(ghost )?use /, "", line)
     module = line
@@ -38,7 +54,11 @@ function read_use(file, line,    module, names, count, k) {
     sub(/^[^{]*\{/, "", line)
     sub(/\}.*/, "", line)
     count = split(line, names, /, */)
-    for (k = 1; k <= count; k++) { from[file, names[k]] = file_of(module); module_of[file, names[k]] = module }
+    for (k = 1; k <= count; k++) {
+        source = module ~ /\.Prelude$/ ? passed_on[names[k]] : module
+        from[file, names[k]] = file_of(source)
+        module_of[file, names[k]] = source
+    }
 }
 
 # Begins a declaration.

@@ -1,12 +1,6 @@
 -- The two sheets of a call, a net sheet and a table sheet: which one is refused and why, or the net and the table under one header.
 -- Assumes nothing.
-use Prim.Native.Nat.{ℕ, _-_, _^_, _≤_}
-use mathlib.Core.Path.{_≡_, refl, sym, ap, _∙_}
-use mathlib.Core.Bool.{Bool, true, false, not}
-use mathlib.Core.List.{List}
-use native.Mathlib.Omega.{arith}
-use lib.ListN.{length, take, length-take}
-use borrow.Author.Tests.{not-true, not-false}
+use Rattle.laws.specs.Prelude.{ℕ, _≤_, _-_, _^_, _≡_, _∙_, sym, ap, refl, true, false, Bool, not, List, arith, length, take, length-take, not-true, not-false}
 use Rattle.rules.specs.Sheets.Sheets as sheets
 use Rattle.rules.specs.Sheets.Sheets.{Table}
 use Rattle.rules.specs.Sheets.SheetRules.{TableRules}
@@ -105,11 +99,13 @@ onBoth refusal onward (turnedBack who number place) = refusal who number place
 -- its laws
 pub record Judges {A : Type 0} (s t : List ℕ) (refusal : answers.Named → ℕ → ℕ → A) (onward : sheets.Net → Table → A) (call : A) : Type 0 where
   pub net-back : (number place : ℕ) → readNet s ≡ refused number place → call ≡ refusal netNamed number place
-  pub table-back : (net : sheets.Net) → readNet s ≡ accepted net → (number place : ℕ) → readTable t ≡ refused number place → call ≡ refusal tableNamed number place
+  pub table-back : (net : sheets.Net) → readNet s ≡ accepted net → (number place : ℕ) → readTable t ≡ refused number place
+      → call ≡ refusal tableNamed number place
   pub goes-on : (net : sheets.Net) → readNet s ≡ accepted net → (table : Table) → readTable t ≡ accepted table → call ≡ onward net table
   pub differ : (net : sheets.Net) (table : Table) → sameHeader (net .header) (table .header) ≡ false → onward net table ≡ refusal neither 12 0
 
-module _ {A : Type 0} (s t : List ℕ) (refusal : answers.Named → ℕ → ℕ → A) (onward : sheets.Net → Table → A) (call : A) (judges : Judges s t refusal onward call) where
+module _ {A : Type 0} (s t : List ℕ) (refusal : answers.Named → ℕ → ℕ → A) (onward : sheets.Net → Table → A) (call : A)
+    (judges : Judges s t refusal onward call) where
   by-both : onBoth refusal onward (readBoth s t) ≡ call
   unfolding readBoth onBoth
   by-both = go (readNet s) refl (readTable t) refl

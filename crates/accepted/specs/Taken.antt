@@ -1,11 +1,6 @@
 -- A sheet that was read, by value: its refusal, or its parts and what the calls on them require.
 -- Assumes nothing.
-use Prim.Native.Nat.{ℕ, _-_, _^_, _≤_, _<_}
-use mathlib.Core.Path.{_≡_, sym, ap, ap₂, _∙_, subst⁻¹}
-use mathlib.Core.List.{List}
-use native.Mathlib.Nat.{sub-zero, one-le-pow}
-use native.Mathlib.Omega.{arith}
-use lib.ListN.{length, take}
+use Rattle.laws.specs.Prelude.{ℕ, _<_, _≤_, _-_, _^_, _≡_, _∙_, sym, ap, ap₂, subst⁻¹, List, sub-zero, one-le-pow, arith, length, take}
 use Rattle.rules.specs.Limits.{mostCells}
 use Rattle.rules.specs.Sheets.Sheets.{Gate}
 use Rattle.rules.specs.Sheets.SheetRules.{NetRules, TableRules, FullTable, IsNet}

@@ -1,7 +1,6 @@
 -- How the answers that calls share map to the definitions: the number and values for each case.
 -- Assumes nothing.
-use Prim.Native.Nat.{ℕ}
-use mathlib.Core.List.{List}
+use Rattle.laws.specs.Prelude.{ℕ, List}
 use Rattle.rules.specs.Calls.Answers as answers
 use Rattle.rules.specs.Calls.Settling.{Made}
 use Rattle.answers.specs.declared.answer.Answer.{Answer}

@@ -1,7 +1,6 @@
 -- How an answer with a count of layers maps to the definitions, and with it the three buffers.
 -- Assumes nothing.
-use Prim.Native.Nat.{ℕ}
-use mathlib.Core.List.{List}
+use Rattle.laws.specs.Prelude.{ℕ, List}
 use Rattle.rules.specs.Calls.Answers as answers
 use Rattle.rules.specs.Calls.ShallowSettling as shallow
 use Rattle.answers.specs.declared.layered.Layered.{Layered}

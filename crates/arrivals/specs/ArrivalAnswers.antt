@@ -1,9 +1,6 @@
 -- The meaning of the call's answer in the definitions: its number and values in each case. And the answer as a function of what was read.
 -- Assumes nothing.
-use Prim.Native.Nat.{ℕ}
-use mathlib.Core.Path.{_≡_, sym, ap, _∙_, subst}
-use mathlib.Core.List.{List, map}
-use lib.ListN.{length}
+use Rattle.laws.specs.Prelude.{ℕ, _≡_, _∙_, sym, ap, subst, List, map, length}
 use Rattle.rules.specs.Calls.Answers.{accepted}
 use Rattle.rules.specs.Sheets.ArrivalSheet.{Arrival, earliestOf, latestOf, readArrivals}
 use Rattle.rules.specs.Nets.Arrivals as rules
@@ -60,7 +57,8 @@ module _ (s : List ℕ) (h : Header) (net : Net) (taken : NetTaken s h net) (t :
           latest = quarter (settlingTime (taken .inputs i) (gatesOf net) delay (map latestOf arrivals));
         }
 
-    pub sheet-settles : (delay : ℕ) (ends : Ends) → ends ≡ settled net (arrivalsIn (r .times) (net .inputs)) delay → timingAs (Settles ends) ≡ arrivalsCall s t delay
+    pub sheet-settles : (delay : ℕ) (ends : Ends) → ends ≡ settled net (arrivalsIn (r .times) (net .inputs)) delay
+        → timingAs (Settles ends) ≡ arrivalsCall s t delay
     sheet-settles delay ends is =
         ap (λ (some : Ends). rules.settles (endsAs some)) is
         ∙ ap rules.settles (as-sheet (arrivalsIn (r .times) (net .inputs)) delay)

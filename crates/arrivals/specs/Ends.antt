@@ -1,7 +1,6 @@
 -- The meaning of an arrival and of two ends in f64: exact quarters of a microsecond.
 -- Assumes nothing.
-use Prim.Native.Nat.{ℕ, _+_, _<_, max}
-use mathlib.Core.Path.{_≡_, refl, ap₂}
+use Rattle.laws.specs.Prelude.{ℕ, _<_, _+_, max, _≡_, refl, ap₂}
 use lib.Ieee.{Float, binary64, add}
 use Rattle.rules.specs.Sheets.ArrivalSheet as sheet
 use Rattle.rules.specs.Sheets.ArrivalSheet.{fixed, between, earliestOf, latestOf}
@@ -41,4 +40,5 @@ joinedEnds left right delay =
 pub joined-at : (a b c d delay : ℕ) → max a c < exactBelow → max b d < exactBelow → delay < exactBelow
     → joinedEnds (endsAt a b) (endsAt c d) (quarter delay) ≡ endsAt (max a c + delay) (max b d + delay)
 joined-at a b c d delay first second small =
-    ap₂ (λ (earliest latest : Float). record { earliest = earliest; latest = latest }) (quarter-joined a c delay first small) (quarter-joined b d delay second small)
+    ap₂ (λ (earliest latest : Float). record { earliest = earliest; latest = latest }) (quarter-joined a c delay first small)
+    (quarter-joined b d delay second small)

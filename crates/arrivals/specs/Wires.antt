@@ -1,15 +1,9 @@
 -- The ends of the wires, one after the other: those of the inputs, and gate by gate.
 -- Assumes nothing.
-use Prim.Native.Nat.{ℕ, _+_, _-_, _*_, _≤_, _<_, max}
-use mathlib.Core.Path.{_≡_, refl, sym, ap, ap₂, _∙_}
-use mathlib.Core.List.{List, [], _∷_, _++_, map, map-map}
-use native.Mathlib.Nat.{zero-add, mul-le-mul}
-use native.Mathlib.Numerals.{add-one}
-use native.Mathlib.Decide.{decLt, ℕ-discrete}
-use native.Mathlib.Omega.{arith}
-use lib.ListN.{length, getD, set, length-set, List·getD-append, List·getD-eq-default}
+use Rattle.laws.specs.Prelude.{ℕ, _<_, _≤_, _+_, _-_, _*_, max, _≡_, _∙_, sym, ap, refl, ap₂, List, [], _∷_, _++_, map, map-map, zero-add, mul-le-mul}
+use Rattle.laws.specs.Prelude.{add-one, decLt, ℕ-discrete, arith, length, getD, set, length-set, List·getD-append, List·getD-eq-default, getD-set-same}
+use Rattle.laws.specs.Prelude.{getD-set-other, getD-at}
 use lib.Ieee.{Float}
-use lib.Seq.{getD-set-same, getD-set-other, getD-at}
 use Rattle.rules.specs.Lists.{range, withEach}
 use Rattle.rules.specs.Limits.{mostInputs, mostTime, mostDelay}
 use Rattle.rules.specs.Sheets.ArrivalSheet.{Arrival, arrivalOf, earliestOf, latestOf}
@@ -48,7 +42,8 @@ wires-snoc early late ends wires k is few e l more ends-more =
       each = λ d i h. go d i h (ℕ-discrete i k);
     }
   where
-    go : (d : Ends) (i : ℕ) → i < length (early ++ (e ∷ [])) → Dec (i ≡ k) → getD (set ends k more) i d ≡ endsAt (getD (early ++ (e ∷ [])) i 0) (getD (late ++ (l ∷ [])) i 0)
+    go : (d : Ends) (i : ℕ) → i < length (early ++ (e ∷ [])) → Dec (i ≡ k)
+        → getD (set ends k more) i d ≡ endsAt (getD (early ++ (e ∷ [])) i 0) (getD (late ++ (l ∷ [])) i 0)
     go d i h (yes at) =
         rw at (getD-set-same ends k more d (omega (arith, wires .room)) ∙ ends-more
         ∙ ap₂ endsAt (sym (getD-at early e [] 0 k (sym is))) (sym (getD-at late l [] 0 k (sym (wires .many) ∙ sym is))))
@@ -92,7 +87,8 @@ pub record Wired (net : Net) (times : Times) (delay k : ℕ) (ends : List Ends) 
   pub low : k ≤ net .gates
   pub wires : WiresAt (timesTo net delay (times .from) k) (timesTo net delay (times .to) k) ends
 
-pub wired-none : (net : Net) (times : Times) (delay : ℕ) (ends : List Ends) → WiresAt (firstTimes (times .from) (net .inputs)) (firstTimes (times .to) (net .inputs)) ends
+pub wired-none : (net : Net) (times : Times) (delay : ℕ) (ends : List Ends)
+    → WiresAt (firstTimes (times .from) (net .inputs)) (firstTimes (times .to) (net .inputs)) ends
     → Wired net times delay 0 ends
 unfolding range withEach
 wired-none net times delay ends wires = record { low = omega arith; wires = wires }
@@ -100,7 +96,8 @@ wired-none net times delay ends wires = record { low = omega arith; wires = wire
 -- the same given only the inputs' ends, for any times that have these ends
 abbrev pub ArrivalTurned : Net → ℕ → List Ends → ℕ → List Ends → Type 0
 ArrivalTurned net delay inputs-ends k ends =
-    (times : Times) → TimesHeld times (net .inputs) → WiresAt (firstTimes (times .from) (net .inputs)) (firstTimes (times .to) (net .inputs)) inputs-ends → Wired net times delay k ends
+    (times : Times) → TimesHeld times (net .inputs) → WiresAt (firstTimes (times .from) (net .inputs)) (firstTimes (times .to) (net .inputs)) inputs-ends
+    → Wired net times delay k ends
 
 -- no time at one end is beyond the exact ones
 first-most : (b : ℕ) (end : List ℕ) (n : ℕ) → ((i : ℕ) → i < n → getD end i 0 ≤ b) → (i : ℕ) → getD (firstTimes end n) i 0 ≤ b
@@ -110,7 +107,8 @@ first-most b end n most i = go (decLt i n)
     go (yes h) = rw (map-range-at (λ j. getD end j 0) 0 n i 0 h, zero-add) (most i h)
     go (no h) = rw (List·getD-eq-default (firstTimes end n) 0 {n = i} (omega (arith, map-range-length (λ j. getD end j 0) 0 n))) (omega arith)
 
-module _ (net : Net) (sound : Sound net) (delay : ℕ) (byte : delay ≤ mostDelay) (end : List ℕ) (most : (i : ℕ) → i < net .inputs → getD end i 0 ≤ mostTime) where
+module _ (net : Net) (sound : Sound net) (delay : ℕ) (byte : delay ≤ mostDelay) (end : List ℕ)
+    (most : (i : ℕ) → i < net .inputs → getD end i 0 ≤ mostTime) where
   to-length : (k : ℕ) → length (timesTo net delay end k) ≡ net .inputs + k
   to-length k =
       with-each-length (gateTime delay) (firstTimes end (net .inputs)) (map (gateOf net) (range 0 k))
@@ -132,7 +130,8 @@ module _ (net : Net) (sound : Sound net) (delay : ℕ) (byte : delay ≤ mostDel
   unfolding gatesOf
   to-last arrivals e =
       ap (λ (k : ℕ). getD (timesTo net delay end (net .gates)) (net .inputs + k - 1) 0) (sym (gates-length net))
-      ∙ sym (settling-last (net .levels) (net .inputs) (gatesOf net) (sound .gates) delay (firstTimes end (net .inputs)) (map-range-length (λ i. getD end i 0) 0 (net .inputs)))
+      ∙ sym (settling-last (net .levels) (net .inputs) (gatesOf net) (sound .gates) delay (firstTimes end (net .inputs))
+      (map-range-length (λ i. getD end i 0) 0 (net .inputs)))
       ∙ ap (settlingTime (net .inputs) (gatesOf net) delay) (sym e)
 
 module _ (net : Net) (sound : Sound net) (delay : ℕ) (byte : delay ≤ mostDelay) (times : Times) (held : TimesHeld times (net .inputs)) where
@@ -180,7 +179,8 @@ module _ (net : Net) (sound : Sound net) (delay : ℕ) (byte : delay ≤ mostDel
           read-ends : joinedEnds a b step ≡ endsAt (gateTime delay early (gateOf net k)) (gateTime delay late (gateOf net k))
           read-ends =
               let back = gate-step net sound k turn in
-              (λ i. joinedEnds ((is-a ∙ at-reference d (getD (net .left) k 0) (back .0)) i) ((is-b ∙ at-reference f (getD (net .right) k 0) (back .1)) i) (is-step i))
+              (λ i. joinedEnds ((is-a ∙ at-reference d (getD (net .left) k 0) (back .0)) i) ((is-b ∙ at-reference f (getD (net .right) k 0) (back .1)) i)
+              (is-step i))
               ∙ gate-ends (getD (net .left) k 0) (getD (net .right) k 0)
 
   pub wired-all : (k : ℕ) (ends : List Ends) → Wired net times delay k ends → net .gates ≤ k → (d : Ends)
@@ -190,9 +190,11 @@ module _ (net : Net) (sound : Sound net) (delay : ℕ) (byte : delay ≤ mostDel
       let is : k ≡ net .gates = omega (arith, wired .low) in
       let last : net .inputs + net .gates - 1 < net .inputs + k = omega (arith, gates-pos net sound) in
       at-reference k ends wired d (net .inputs + net .gates - 1) last
-      ∙ ap (λ (j : ℕ). endsAt (getD (timesTo net delay (times .from) j) (net .inputs + net .gates - 1) 0) (getD (timesTo net delay (times .to) j) (net .inputs + net .gates - 1) 0)) is
+      ∙ ap (λ (j : ℕ). endsAt (getD (timesTo net delay (times .from) j) (net .inputs + net .gates - 1) 0)
+      (getD (timesTo net delay (times .to) j) (net .inputs + net .gates - 1) 0)) is
       ∙ ap₂ endsAt
-      (to-last net sound delay byte (times .from) from-most (map earliestOf (arrivalsIn times (net .inputs))) (ends-in earliestOf (times .from) (λ i. earliest-of _ _)))
+      (to-last net sound delay byte (times .from) from-most (map earliestOf (arrivalsIn times (net .inputs)))
+      (ends-in earliestOf (times .from) (λ i. earliest-of _ _)))
       (to-last net sound delay byte (times .to) to-most (map latestOf (arrivalsIn times (net .inputs))) (ends-in latestOf (times .to) (λ i. latest-of _ _)))
     where
       ends-in : (end : Arrival → ℕ) (own : List ℕ) → ((i : ℕ) → end (arrivalOf (getD (times .from) i 0) (getD (times .to) i 0)) ≡ getD own i 0)

@@ -1,8 +1,6 @@
 -- A verdict as four numbers, and the cells buffer.
 -- Assumes nothing.
-use Prim.Native.Nat.{ℕ}
-use mathlib.Core.Path.{_≡_}
-use mathlib.Core.List.{List}
+use Rattle.laws.specs.Prelude.{ℕ, _≡_, List}
 use Rattle.rules.specs.Calls.Checking.{Checked}
 use Rattle.capi.specs.declared.numbers.verdict.SitgurpVerdict.{SitgurpVerdict}
 use Rattle.capi.specs.Numbers.Verdict.{flatVerdict}

@@ -1,8 +1,6 @@
 -- What the count of a table's trees answers as two numbers, and its two buffers.
 -- Assumes nothing.
-use Prim.Native.Nat.{ℕ}
-use mathlib.Core.Path.{_≡_, ap, _∙_}
-use mathlib.Core.List.{List}
+use Rattle.laws.specs.Prelude.{ℕ, _≡_, _∙_, ap, List}
 use Rattle.rules.specs.Calls.Answers.{Answer}
 use Rattle.rules.specs.Calls.FamilyCalls.{Counted}
 use Rattle.capi.specs.declared.numbers.flat.SitgurpAnswer.{SitgurpAnswer}
@@ -13,7 +11,8 @@ pub record FlatCounted (counted : Counted) (r : SitgurpAnswer) (cells marks : Li
   pub cells-then : cells ≡ counted .cells
   pub marks-then : marks ≡ counted .marks
 
-pub flat-counted : {counted : Counted} {answer : Answer ℕ} {r : SitgurpAnswer} {cells marks : List ℕ} → record { answer = answer; cells = cells; marks = marks } ≡ counted
+pub flat-counted : {counted : Counted} {answer : Answer ℕ} {r : SitgurpAnswer} {cells marks : List ℕ}
+    → record { answer = answer; cells = cells; marks = marks } ≡ counted
     → r ≡ flatOf answer → FlatCounted counted r cells marks
 flat-counted did e =
     record {

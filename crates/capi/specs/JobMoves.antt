@@ -2,9 +2,7 @@
 -- changed are the job after these moves.
 -- `marks-passed` and `marks-ahead` in demands/Jobs say what the marks of such a job are.
 -- Assumes nothing.
-use Prim.Native.Nat.{ℕ}
-use mathlib.Core.Path.{_≡_, sym, ap, _∙_}
-use mathlib.Core.List.{List, [], _∷_, _++_}
+use Rattle.laws.specs.Prelude.{ℕ, _≡_, _∙_, sym, ap, List, [], _∷_, _++_}
 use Rattle.rules.specs.Calls.Jobs.{Job, openJob, stepJob, askJob, Move, step, ask, moved, afterMoves}
 use Rattle.jobs.specs.Forms.{jobIn}
 use Rattle.jobs.specs.Reached.{after-last}
@@ -17,7 +15,8 @@ use Rattle.capi.specs.JobStep.{FlatStepped}
 pub data FlatGot (s : List ℕ) : List Move → List ℕ → List ℕ → List ℕ → ℕ → Type 0 where
   opened : {lines cells marks : List ℕ} {passed : ℕ} (r : SitgurpAnswer) → FlatOpened s r lines cells marks passed → FlatGot s [] lines cells marks passed
   stepped : {moves : List Move} {lines cells marks marks-after : List ℕ} {passed passed-after : ℕ} → FlatGot s moves lines cells marks passed
-      → (r : SitgurpAnswer) → FlatStepped lines cells marks passed r marks-after passed-after → FlatGot s (moves ++ (step ∷ [])) lines cells marks-after passed-after
+      → (r : SitgurpAnswer) → FlatStepped lines cells marks passed r marks-after passed-after
+      → FlatGot s (moves ++ (step ∷ [])) lines cells marks-after passed-after
   asked : {moves : List Move} {lines cells marks : List ℕ} {passed : ℕ} → FlatGot s moves lines cells marks passed
       → (g : ℕ) → FlatGot s (moves ++ (ask g ∷ [])) lines cells marks passed
 

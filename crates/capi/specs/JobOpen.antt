@@ -1,8 +1,6 @@
 -- Opening a job as the call for C returns it: two numbers, and every byte of the job.
 -- Assumes nothing.
-use Prim.Native.Nat.{ℕ}
-use mathlib.Core.Path.{_≡_, ap, _∙_}
-use mathlib.Core.List.{List}
+use Rattle.laws.specs.Prelude.{ℕ, _≡_, _∙_, ap, List}
 use Rattle.rules.specs.Calls.Jobs.{openJob}
 use Rattle.jobs.specs.declared.job.Job.{Job}
 use Rattle.jobs.specs.declared.job.Opened.{Opened}

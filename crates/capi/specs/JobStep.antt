@@ -1,9 +1,6 @@
 -- A step of a job as the call for C returns it: two numbers, the marks and how many groups have been passed.
 -- Assumes nothing.
-use Prim.Native.Nat.{ℕ, _+_, _<_}
-use mathlib.Core.Path.{_≡_, sym, ap, _∙_}
-use mathlib.Core.List.{List}
-use lib.ListN.{set}
+use Rattle.laws.specs.Prelude.{ℕ, _<_, _+_, _≡_, _∙_, sym, ap, List, set}
 use Rattle.rules.specs.Calls.Answers.{written}
 use Rattle.rules.specs.Calls.Jobs.{Job, further, Stepped, stepJob}
 use Rattle.laws.specs.Calls.Jobs.{step-done, step-on}

@@ -1,8 +1,6 @@
 -- What keeping a wiring answers, as four numbers, and its two buffers.
 -- Assumes nothing.
-use Prim.Native.Nat.{ℕ}
-use mathlib.Core.Path.{_≡_}
-use mathlib.Core.List.{List}
+use Rattle.laws.specs.Prelude.{ℕ, _≡_, List}
 use Rattle.rules.specs.Calls.Keeping.{KeptWiring}
 use Rattle.capi.specs.declared.numbers.kept.SitgurpKept.{SitgurpKept}
 use Rattle.capi.specs.Numbers.Kept.{flatKept}

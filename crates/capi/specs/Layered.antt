@@ -1,8 +1,6 @@
 -- What settling or making of the shallow net answers as three numbers, and its three buffers.
 -- Assumes nothing.
-use Prim.Native.Nat.{ℕ}
-use mathlib.Core.Path.{_≡_, ap, _∙_}
-use mathlib.Core.List.{List}
+use Rattle.laws.specs.Prelude.{ℕ, _≡_, _∙_, ap, List}
 use Rattle.rules.specs.Calls.Answers.{Answer}
 use Rattle.rules.specs.Calls.ShallowSettling.{Layered, LayeredMade}
 use Rattle.capi.specs.declared.numbers.layered.SitgurpShallow.{SitgurpShallow}

@@ -1,13 +1,7 @@
 -- A gate lister whose caller keeps the position: `sitgurp_lister_open` returns the first, `sitgurp_lister_next` the line at a position and the next
 -- position. Followed from the first position, turn k is turn k of `listing`, which is what `sitgurp_gate_line` returns.
 -- Assumes nothing.
-use Prim.Native.Nat.{ℕ, zero, suc, _+_, _-_, _≤_, _<_, min}
-use mathlib.Core.Path.{_≡_, refl, sym, ap, _∙_}
-use mathlib.Core.List.{List}
-use native.Mathlib.Numerals.{add-one}
-use native.Mathlib.Omega.{arith}
-use lib.ListN.{length, drop}
-use borrow.Author.Tests.{lt-ltb, le-ltb}
+use Rattle.laws.specs.Prelude.{ℕ, _<_, _≤_, _+_, _-_, suc, zero, min, _≡_, _∙_, sym, ap, refl, List, add-one, arith, length, drop, lt-ltb, le-ltb}
 use Rattle.rules.specs.Sheets.Sheets.{Net}
 use Rattle.rules.specs.Calls.Answers.{Answer, accepted, refused, onward}
 use Rattle.rules.specs.Sheets.Reading.{readNet}

@@ -1,8 +1,6 @@
 -- What settling or making answers as two numbers, and its three buffers.
 -- Assumes nothing.
-use Prim.Native.Nat.{ℕ}
-use mathlib.Core.Path.{_≡_, ap, _∙_}
-use mathlib.Core.List.{List}
+use Rattle.laws.specs.Prelude.{ℕ, _≡_, _∙_, ap, List}
 use Rattle.rules.specs.Calls.Answers.{Answer}
 use Rattle.rules.specs.Calls.Settling.{Made}
 use Rattle.capi.specs.declared.numbers.flat.SitgurpAnswer.{SitgurpAnswer}
@@ -15,7 +13,8 @@ pub record FlatMade (made : Made) (r : SitgurpAnswer) (cells marks output : List
   pub marks-then : marks ≡ made .marks
   pub output-then : output ≡ made .output
 
-pub flat-made : {made : Made} {answer : Answer ℕ} {r : SitgurpAnswer} {cells marks output : List ℕ} → record { answer = answer; cells = cells; marks = marks; output = output } ≡ made
+pub flat-made : {made : Made} {answer : Answer ℕ} {r : SitgurpAnswer} {cells marks output : List ℕ}
+    → record { answer = answer; cells = cells; marks = marks; output = output } ≡ made
     → r ≡ flatOf answer → FlatMade made r cells marks output
 flat-made did e =
     record {

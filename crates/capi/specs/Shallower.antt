@@ -1,8 +1,6 @@
 -- The shallower of two sheets as two numbers: which, and the length of what is returned.
 -- Assumes nothing.
-use Prim.Native.Nat.{ℕ}
-use mathlib.Core.List.{List}
-use lib.ListN.{length}
+use Rattle.laws.specs.Prelude.{ℕ, List, length}
 use Rattle.rules.specs.Calls.Shallower.{Which, firstSheet, secondSheet, noSheet}
 use Rattle.capi.specs.declared.shallower_sheet.SitgurpWhich.{SitgurpWhich}
 

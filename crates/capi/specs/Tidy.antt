@@ -1,8 +1,6 @@
 -- What tidying answers as two numbers, and its buffers.
 -- Assumes nothing.
-use Prim.Native.Nat.{ℕ}
-use mathlib.Core.Path.{_≡_}
-use mathlib.Core.List.{List}
+use Rattle.laws.specs.Prelude.{ℕ, _≡_, List}
 use Rattle.rules.specs.Calls.Tidying.{Tidied}
 use Rattle.capi.specs.declared.numbers.flat.SitgurpAnswer.{SitgurpAnswer}
 use Rattle.capi.specs.Numbers.Flat.{flatOf}

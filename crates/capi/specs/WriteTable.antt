@@ -1,8 +1,6 @@
 -- The answer as two numbers, and the output, of a call that writes only an output: table writing and glyphs.
 -- Assumes nothing.
-use Prim.Native.Nat.{ℕ}
-use mathlib.Core.Path.{_≡_}
-use mathlib.Core.List.{List}
+use Rattle.laws.specs.Prelude.{ℕ, _≡_, List}
 use Rattle.rules.specs.Calls.TableWriting.{Written}
 use Rattle.capi.specs.declared.numbers.flat.SitgurpAnswer.{SitgurpAnswer}
 use Rattle.capi.specs.Numbers.Flat.{flatOf}

@@ -14,7 +14,8 @@ pub extern "C" fn sitgurp_glyph(
     offsets: &[i8],
     out: &mut [u8],
 ) -> SitgurpAnswer
-    ensures { λ r. ⌜ FlatWritten (glyphCall (now (sheet .entry)) width height (now (picture .entry)) (now (offsets .entry)) (now (out .entry))) r (now (out .exit)) ⌝ }
+    ensures { λ r. ⌜ FlatWritten (glyphCall (now (sheet .entry)) width height (now (picture .entry)) (now (offsets .entry)) (now (out .entry))) r
+        (now (out .exit)) ⌝ }
 {
     flat(glyphs::call::glyph(sheet, width, height, picture, offsets, out))
 }

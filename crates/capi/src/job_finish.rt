@@ -21,7 +21,8 @@ pub extern "C" fn sitgurp_job_finish_parts(
     out: &mut [u8],
 ) -> SitgurpAnswer
     ensures { λ r. ⌜ ((own-marks : List ℕ)
-        → FlatMade (finishJob (jobIn (now (lines .entry)) (now (own .entry)) own-marks passed) (now (cells .entry)) (now (marks .entry)) (now (out .entry)) .made)
+        → FlatMade (finishJob (jobIn (now (lines .entry)) (now (own .entry)) own-marks passed) (now (cells .entry)) (now (marks .entry))
+        (now (out .entry)) .made)
         r (now (cells .exit)) (now (marks .exit)) (now (out .exit))) ⌝ }
 {
     flat(finishing::finish_in(lines, own, passed, cells, marks, out))

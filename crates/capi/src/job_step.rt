@@ -15,7 +15,8 @@ pub extern "C" fn sitgurp_job_step_parts(
     marks: &mut [u8; own::MOST_GROUPS],
     passed: &mut usize,
 ) -> SitgurpAnswer
-    ensures { λ r. ⌜ FlatStepped (now (lines .entry)) (now (cells .entry)) (now (marks .entry)) (now (passed .entry)) r (now (marks .exit)) (now (passed .exit)) ⌝ }
+    ensures { λ r. ⌜ FlatStepped (now (lines .entry)) (now (cells .entry)) (now (marks .entry)) (now (passed .entry)) r (now (marks .exit))
+        (now (passed .exit)) ⌝ }
 {
     let before = *passed;
     let found = next::next_mark(lines, cells, marks, before);

@@ -12,7 +12,8 @@ pub extern "C" fn sitgurp_keep(
     cells: &mut [u8],
     output: &mut [u8],
 ) -> SitgurpKept
-    ensures { λ r. ⌜ FlatKept (keepCall (now (net .entry)) (now (table .entry)) (now (cells .entry)) (now (output .entry))) r (now (cells .exit)) (now (output .exit)) ⌝ }
+    ensures { λ r. ⌜ FlatKept (keepCall (now (net .entry)) (now (table .entry)) (now (cells .entry)) (now (output .entry))) r (now (cells .exit))
+        (now (output .exit)) ⌝ }
 {
     flat_kept(keeping::keep::keep(net, table, cells, output))
 }

@@ -1,11 +1,6 @@
 -- Checking two sheets: a refusal, the cells buffer, then the inks.
 -- Assumes nothing.
-use Prim.Native.Nat.{ℕ, _-_, _^_, _≤_, _<_}
-use mathlib.Core.Path.{_≡_, refl, sym, ap, ap₂, _∙_, subst⁻¹}
-use mathlib.Core.Bool.{true}
-use mathlib.Core.List.{List}
-use native.Mathlib.Omega.{arith}
-use lib.ListN.{length, take}
+use Rattle.laws.specs.Prelude.{ℕ, _<_, _≤_, _-_, _^_, _≡_, _∙_, sym, ap, refl, ap₂, subst⁻¹, true, List, arith, length, take}
 use Rattle.rules.specs.Calls.Answers as answers
 use Rattle.rules.specs.Calls.Answers.{neither}
 use Rattle.rules.specs.Calls.Checking.{Checked, turnedDown, sameHeader, checkedInto, checkCall}
@@ -39,7 +34,8 @@ module _ (s t inks cells : List ℕ) (r : BothRead) (read : BothReads s t inks r
   pub check-refused : (who : Named) (number place : ℕ) → r .outcome ≡ Refused who number place
       → record { answer = turnedDown (namedOf who) number place; cells = cells } ≡ checkCall s t cells
   unfolding refusal
-  check-refused who number place e = both-turned s t refusal (λ net table. checkedInto net table cells) (checkCall s t cells) judges inks r read who number place e
+  check-refused who number place e =
+      both-turned s t refusal (λ net table. checkedInto net table cells) (checkCall s t cells) judges inks r read who number place e
 
   module _ (on : r .outcome ≡ Accepted) (count : ℕ) (is : count ≡ r .header .levels ^ r .header .inputs) where
     abbrev h : Header
@@ -68,6 +64,7 @@ module _ (s t inks cells : List ℕ) (r : BothRead) (read : BothReads s t inks r
     unfolding headerOf
     cells-long long before after all did checked e =
         let fits : length (inksIn inks h) ≤ length cells = omega (arith, inks-length) in
-        e ∙ ap₂ (λ (xs ys : List ℕ). comparedInto (h .levels) xs ys cells) (front s h (r .net) (taken .own) before after all count did is) (inks-front s h inks count is)
+        e ∙ ap₂ (λ (xs ys : List ℕ). comparedInto (h .levels) xs ys cells) (front s h (r .net) (taken .own) before after all count did is)
+        (inks-front s h inks count is)
         ∙ sym (check-compared (netIn s h (r .net)) (tableIn s h (inksIn inks h)) cells same fits)
         ∙ onward

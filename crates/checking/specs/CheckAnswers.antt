@@ -1,7 +1,6 @@
 -- What the code's answers and buffers represent in document 01's definitions.
 -- Assumes nothing.
-use Prim.Native.Nat.{ℕ}
-use mathlib.Core.List.{List}
+use Rattle.laws.specs.Prelude.{ℕ, List}
 use Rattle.rules.specs.Calls.Answers as answers
 use Rattle.rules.specs.Calls.Checking as checking
 use Rattle.answers.specs.AnswerMaps.{namedOf}

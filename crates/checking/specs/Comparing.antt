@@ -1,11 +1,6 @@
 -- Two lists of inks compared, by the first index that differs.
 -- Assumes nothing.
-use Prim.Native.Nat.{ℕ, _≤_, _<_}
-use mathlib.Core.Path.{_≡_, sym, ap, _∙_}
-use mathlib.Core.List.{List}
-use native.Mathlib.Decide.{decLt}
-use native.Mathlib.Omega.{arith}
-use lib.ListN.{length, getD}
+use Rattle.laws.specs.Prelude.{ℕ, _<_, _≤_, _≡_, _∙_, sym, ap, List, decLt, arith, length, getD}
 use Rattle.rules.specs.Calls.Checking.{Verdict, agree, differ, compared}
 use Rattle.net_sheets.specs.Text.Put.{Put, put-wrote}
 use Rattle.laws.specs.Calls.Checking.{AgreeAt, Compared, all-agree, first-differs, comparison}

@@ -1,13 +1,7 @@
 -- The first of each class in chains, one chain for each key.
 -- Assumes nothing.
-use Prim.Native.Nat.{ℕ, _+_, _≤_, _<_}
-use mathlib.Core.Path.{_≡_, refl, sym, ap, _∙_, subst, subst⁻¹}
-use mathlib.Core.Bool.{Bool, true, false, true≢false}
-use mathlib.Core.List.{List}
-use native.Mathlib.Decide.{ℕ-discrete, decLt}
-use native.Mathlib.Omega.{arith}
-use lib.ListN.{length, getD, take, set}
-use lib.Seq.{getD-set-same, getD-set-other, getD-take}
+use Rattle.laws.specs.Prelude.{ℕ, _<_, _≤_, _+_, _≡_, _∙_, sym, ap, refl, subst, subst⁻¹, true, false, Bool, true≢false, List, decLt, ℕ-discrete, arith}
+use Rattle.laws.specs.Prelude.{length, getD, take, set, getD-set-same, getD-set-other, getD-take}
 use Rattle.rules.specs.Lists.{firstPlace}
 use Rattle.rules.specs.Groups.Groups.{alikeOver}
 use Rattle.laws.specs.Lists.FirstPlaces.{before-first}
@@ -80,7 +74,8 @@ module _ (m : ℕ) (f : ℕ → ℕ) (ys : List ℕ) (width : ℕ) where
               go (no other) = subst⁻¹ (InChain links′ j) (getD-set-other heads key b (count + 1) 0 other) kept
               go (yes e) =
                   subst⁻¹ (InChain links′ j) (ap (λ (k : ℕ). getD heads′ k 0) e ∙ getD-set-same heads key (count + 1) 0 room-heads)
-                  (later _ count (omega arith) (subst⁻¹ (InChain links′ j) (getD-set-same links count head 0 room-links) (subst (λ (k : ℕ). InChain links′ j (getD heads k 0)) e kept)))
+                  (later _ count (omega arith) (subst⁻¹ (InChain links′ j) (getD-set-same links count head 0 room-links)
+                  (subst (λ (k : ℕ). InChain links′ j (getD heads k 0)) e kept)))
 
           reach : (j : ℕ) → j < count + 1 → InChain links′ j (getD heads′ (keyAt (set fs count p) j) 0)
           reach j h = go (ℕ-discrete j count)
@@ -92,7 +87,8 @@ module _ (m : ℕ) (f : ℕ → ℕ) (ys : List ℕ) (width : ℕ) where
                   here _ (ap (λ (k : ℕ). getD heads′ k 0) at ∙ getD-set-same heads key (count + 1) 0 room-heads ∙ omega arith)
               go (no other) =
                   let at : keyAt (set fs count p) j ≡ keyAt fs j = ap (keyOf m f ys width) (getD-set-other fs count j p 0 other) in
-                  subst⁻¹ (λ (k : ℕ). InChain links′ j (getD heads′ k 0)) at (old j (omega (arith, other)) (keyAt fs j) (chains .reached j (omega (arith, other))))
+                  subst⁻¹ (λ (k : ℕ). InChain links′ j (getD heads′ k 0)) at
+                  (old j (omega (arith, other)) (keyAt fs j) (chains .reached j (omega (arith, other))))
 
     -- what a search of its chain says about its class
     module _ {r : Bool} (long : count ≤ length fs) (searched : Searched (alikeOver f ys p) fs links head r) where
@@ -106,7 +102,8 @@ module _ (m : ℕ) (f : ℕ → ℕ) (ys : List ℕ) (width : ℕ) where
           go (yes h) = h
           go (no h) =
               let inside : one .place < count = omega (arith, one .below, chains .low key) in
-              let no-one : alikeOver f ys p (getD (take count fs) (one .place) 0) ≡ false = before-first (alikeOver f ys p) 0 (take count fs) (one .place) (omega (arith, h, inside)) in
+              let no-one : alikeOver f ys p (getD (take count fs) (one .place) 0) ≡ false =
+              before-first (alikeOver f ys p) 0 (take count fs) (one .place) (omega (arith, h, inside)) in
               let clash : true ≡ false = sym (one .passes) ∙ ap (alikeOver f ys p) (sym (getD-take count fs (one .place) 0 inside)) ∙ no-one in
               absurd (true≢false clash)
 

@@ -1,9 +1,6 @@
 -- A key computed column by column.
 -- Assumes nothing.
-use Prim.Native.Nat.{ℕ, _+_, _*_, _%_, _<_}
-use mathlib.Core.Path.{_≡_}
-use mathlib.Core.List.{List}
-use lib.ListN.{length, getD, drop}
+use Rattle.laws.specs.Prelude.{ℕ, _<_, _+_, _*_, _%_, _≡_, List, length, getD, drop}
 use Rattle.laws.specs.Lists.Walks.{rest}
 use Rattle.classes.specs.Keys.{keyFrom}
 

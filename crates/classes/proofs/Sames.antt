@@ -1,11 +1,6 @@
 -- Places at which a test fails: four in a row, one more than before, and a search that begins after them.
 -- Assumes nothing.
-use Prim.Native.Nat.{ℕ, zero, suc, _+_, _-_, _≤_, _<_}
-use mathlib.Core.Path.{_≡_, refl, sym, ap, _∙_}
-use mathlib.Core.Bool.{Bool, false}
-use native.Mathlib.Decide.{ℕ-discrete, decLt}
-use native.Mathlib.Numerals.{add-one}
-use native.Mathlib.Omega.{arith}
+use Rattle.laws.specs.Prelude.{ℕ, _<_, _≤_, _+_, _-_, suc, zero, _≡_, _∙_, sym, ap, refl, false, Bool, add-one, decLt, ℕ-discrete, arith}
 use Rattle.rules.specs.Lists.{range, find}
 use Rattle.laws.specs.Lists.Walks.{find-next}
 

@@ -1,11 +1,6 @@
 -- Chains of kept assignments. A head or a link is 1 more than a place, and 0 ends the chain; a link leads to an earlier place.
 -- Assumes nothing.
-use Prim.Native.Nat.{ℕ, zero, suc, _+_, _≤_, _<_}
-use mathlib.Core.Path.{_≡_, refl, sym, ap, _∙_, subst}
-use mathlib.Core.Bool.{Bool, true, false, true≢false}
-use mathlib.Core.List.{List}
-use native.Mathlib.Omega.{arith}
-use lib.ListN.{getD, replicate}
+use Rattle.laws.specs.Prelude.{ℕ, _<_, _≤_, _+_, suc, zero, _≡_, _∙_, sym, ap, refl, subst, true, false, Bool, true≢false, List, arith, getD, replicate}
 
 -- place j is in the chain that starts at a head
 pub data InChain (links : List ℕ) (j : ℕ) : ℕ → Type 0 where

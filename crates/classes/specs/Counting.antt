@@ -1,14 +1,8 @@
 -- A loop that keeps the first of each class until there are enough, over plain lists: the classes of what is kept and of the assignments not yet
 -- visited are the classes of all.
 -- Assumes nothing.
-use Prim.Native.Nat.{ℕ, _+_, _≤_, _<_}
-use mathlib.Core.Path.{_≡_, refl, sym, ap, ap₂, _∙_, subst⁻¹}
-use mathlib.Core.List.{List, [], _∷_, _++_}
-use native.Mathlib.Numerals.{add-one}
-use native.Mathlib.Omega.{arith}
-use native.Mathlib.Decide.{ℕ-discrete}
-use lib.ListN.{length, getD, take, drop, set, length-set, length-take, drop-of-length-le}
-use lib.Seq.{take-suc-set, take-all, length-take-le, getD-set-same, getD-set-other}
+use Rattle.laws.specs.Prelude.{ℕ, _<_, _≤_, _+_, _≡_, _∙_, sym, ap, refl, ap₂, subst⁻¹, List, [], _∷_, _++_, add-one, ℕ-discrete, arith, length, getD, take}
+use Rattle.laws.specs.Prelude.{drop, set, length-set, drop-of-length-le, length-take, getD-set-same, getD-set-other, length-take-le, take-suc-set, take-all}
 use Rattle.rules.specs.Lists.{firstPlace}
 use Rattle.rules.specs.Groups.Groups.{alikeOver, firsts}
 use Rattle.classes.specs.Firsts.{classesOver, firsts-known, firsts-new, firsts-front}
@@ -92,7 +86,8 @@ module _ {f : ℕ → ℕ} {b : ℕ} {ys xs : List ℕ} {enough : ℕ} {fs : Lis
           at j l (no ne) = subst⁻¹ (Within b ys) (getD-set-other fs count j (getD xs i 0) 0 ne) (kept .inside j (omega arith))
 
 -- the first assignment
-pub firsts-found-one : (f : ℕ → ℕ) (b : ℕ) (ys xs : List ℕ) (enough : ℕ) (fs : List ℕ) → 0 < enough → enough ≤ length fs → 0 < length xs → Within b ys (getD xs 0 0)
+pub firsts-found-one : (f : ℕ → ℕ) (b : ℕ) (ys xs : List ℕ) (enough : ℕ) (fs : List ℕ) → 0 < enough → enough ≤ length fs → 0 < length xs → Within
+    b ys (getD xs 0 0)
     → FirstsFound f b ys xs enough (set fs 0 (getD xs 0 0)) 1 1
 unfolding firstPlace
 firsts-found-one f b ys xs enough fs some room more = kept-new (kept-none f b ys xs enough fs room) more refl (omega arith) some

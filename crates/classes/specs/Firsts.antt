@@ -1,22 +1,13 @@
 -- The first of each class, found one assignment at a time.
 -- Assumes nothing.
-use Prim.Native.Nat.{ℕ, suc, _+_, _^_, _≤_, _<_}
-use mathlib.Core.Path.{_≡_, refl, sym, ap, ap₂, _∙_, subst}
-use mathlib.Core.Bool.{Bool, true, false}
-use mathlib.Core.List.{List, [], _∷_, _++_}
-use native.Mathlib.Nat.{le-trans, zero-add, pow-le-pow-right}
-use native.Mathlib.Decide.{decLt}
-use native.Mathlib.Omega.{arith}
-use lib.Dec.{ltb}
-use lib.ListN.{length, getD, take, length-append, length-take}
-use lib.Seq.{take-all, length-take-le, getD-take, take-length, take-take, take-at}
-use borrow.Author.Tests.{lt-ltb, le-ltb}
+use Rattle.laws.specs.Prelude.{ℕ, _<_, _≤_, _+_, _^_, suc, _≡_, _∙_, sym, ap, refl, subst, ap₂, true, false, Bool, List, [], _∷_, _++_, zero-add, le-trans}
+use Rattle.laws.specs.Prelude.{decLt, arith, ltb, length, getD, take, length-append, length-take, length-take-le, getD-take, take-at, take-all, take-take}
+use Rattle.laws.specs.Prelude.{take-length, lt-ltb, le-ltb}
 use Rattle.rules.specs.Lists.{any, firstPlace}
-use Rattle.rules.specs.Groups.Groups.{others, points, alikeOver, firsts, classes}
+use Rattle.rules.specs.Groups.Groups.{size, others, points, alikeOver, firsts, classes}
 use Rattle.laws.specs.Lists.FirstPlaces.{any-place}
 use Rattle.cells.specs.Bound.{first-is}
 use Rattle.radix.specs.Fronts.{Front}
-use Rattle.trees.specs.Groups.Members.{size-le}
 use Rattle.trees.specs.Groups.Points.{points-length}
 
 -- the first of each class of the assignments xs; ys are the assignments of the other inputs
@@ -55,7 +46,8 @@ module _ (same : ℕ → ℕ → Bool) where
   firsts-front kept [] = take-length kept
   firsts-front kept (p ∷ ps) = go (any (same p) kept) (firsts-front kept ps) (firsts-front (kept ++ (p ∷ [])) ps)
     where
-      go : (b : Bool) → take (length kept) (firsts same kept ps) ≡ kept → take (length (kept ++ (p ∷ []))) (firsts same (kept ++ (p ∷ [])) ps) ≡ kept ++ (p ∷ [])
+      go : (b : Bool) → take (length kept) (firsts same kept ps) ≡ kept
+          → take (length (kept ++ (p ∷ []))) (firsts same (kept ++ (p ∷ [])) ps) ≡ kept ++ (p ∷ [])
           → take (length kept) (elim b as (λ _. List ℕ) [ true ↦ firsts same kept ps | false ↦ firsts same (kept ++ (p ∷ [])) ps ]) ≡ kept
       go true old new = old
       go false old new =
@@ -76,7 +68,8 @@ module _ (same : ℕ → ℕ → Bool) where
       go false old new = omega (arith, length-append kept (p ∷ []))
 
 -- the first `enough` of the classes are all of them if there are no more, ..
-pub front-all : (enough : ℕ) (classes : List ℕ) {count : ℕ} {kept : List ℕ} → Front (take enough classes) count kept → length classes ≤ enough → Front classes count kept
+pub front-all : (enough : ℕ) (classes : List ℕ) {count : ℕ} {kept : List ℕ} → Front (take enough classes) count kept → length classes ≤ enough
+    → Front classes count kept
 front-all enough classes {count} {kept} front few = subst (λ (l : List ℕ). Front l count kept) (take-all enough classes few) front
 
 -- .. and the first m + 1 are more than m exactly when the classes are
@@ -94,9 +87,8 @@ module _ (m : ℕ) (classes : List ℕ) {count : ℕ} {kept : List ℕ} (front :
       go (yes over) = lt-ltb m count over ∙ sym (lt-ltb m (length classes) (front-over over))
       go (no within) = le-ltb m count (omega arith) ∙ sym (le-ltb m (length classes) (front-within (omega arith)))
 
--- a group has no more classes than there are cells
-pub classes-fit : (m n : ℕ) → 0 < m → (f : ℕ → ℕ) (g : ℕ) → length (classes m n f g) ≤ m ^ n
+-- a group has no more classes than assignments
+pub classes-fit : (m n : ℕ) → 0 < m → (f : ℕ → ℕ) (g : ℕ) → length (classes m n f g) ≤ m ^ size n g
 unfolding classes
 classes-fit m n pos f g =
-    le-trans (firsts-fewer (alikeOver f (points m n (others n g))) [] (points m n g))
-    (rw (zero-add, points-length m n pos g) (pow-le-pow-right pos (size-le n g)))
+    le-trans (firsts-fewer (alikeOver f (points m n (others n g))) [] (points m n g)) (rw (zero-add, points-length m n pos g) (omega arith))

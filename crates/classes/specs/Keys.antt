@@ -1,13 +1,7 @@
 -- A key of an assignment: a number made of its inks at some assignments of the other inputs. Alike assignments have the same key, so only those with
 -- the same key are compared.
 -- Assumes nothing.
-use Prim.Native.Nat.{ℕ, zero, suc, _+_, _*_, _%_, _≤_, _<_}
-use mathlib.Core.Path.{_≡_, refl, ap, _∙_}
-use mathlib.Core.Bool.{true}
-use mathlib.Core.List.{List, [], _∷_}
-use native.Mathlib.Omega.{arith}
-use lib.ListN.{take}
-use borrow.Author.Tests.{eqb-true}
+use Rattle.laws.specs.Prelude.{ℕ, _<_, _≤_, _+_, suc, _*_, zero, _%_, _≡_, _∙_, ap, refl, true, List, [], _∷_, arith, take, eqb-true}
 use Rattle.rules.specs.Groups.Groups.{alikeOver}
 use Rattle.laws.specs.Lists.Tests.{all-iff}
 

@@ -1,14 +1,10 @@
 -- An assignment of a group plus one of the other inputs is inside the cells.
 -- Assumes nothing.
-use Prim.Native.Nat.{ℕ, _+_, _^_, _≤_, _<_}
-use mathlib.Core.Path.{_≡_, sym, subst₂}
-use mathlib.Core.List.{List}
-use native.Mathlib.Omega.{arith}
-use lib.ListN.{length, getD}
-use Rattle.rules.specs.Limits.{mostCells, mostInputs, mostLevels}
-use Rattle.rules.specs.Groups.Groups.{part, others, points}
+use Rattle.laws.specs.Prelude.{ℕ, _<_, _≤_, _+_, _^_, _≡_, sym, subst₂, List, le-trans, pow-le-pow-right, arith, length, getD}
+use Rattle.rules.specs.Groups.Groups.{part, size, others, points}
 use Rattle.trees.specs.Trees.Trees.{mix}
 use Rattle.trees.specs.Groups.Levels.{mix-below}
+use Rattle.trees.specs.Groups.Members.{size-le}
 use Rattle.laws.specs.Lists.Places.{mem-getD}
 use Rattle.trees.specs.Groups.Points.{points-are-parts}
 use Rattle.radix.specs.Widths.{mostMembers, mostOffsets}
@@ -47,27 +43,26 @@ pub record OffsetRoom (m n : ℕ) (cells xs ys : List ℕ) : Type 0 where
   pub for-xs : m ^ n ≤ length xs
   pub for-ys : m ^ n ≤ length ys
 
--- the most cells of a small table
+-- the same for one group: each array has room for its own assignments
+pub record GroupRoom (m n g : ℕ) (cells xs ys : List ℕ) : Type 0 where
+  pub some : 0 < m
+  pub inputs : n ≤ mostMembers
+  pub small : m ^ n ≤ mostOffsets
+  pub for-cells : m ^ n ≤ length cells
+  pub for-xs : m ^ size n g ≤ length xs
+  pub for-ys : m ^ size n (others n g) ≤ length ys
+
+pub group-room : {m n : ℕ} {cells xs ys : List ℕ} → OffsetRoom m n cells xs ys → (g : ℕ) → GroupRoom m n g cells xs ys
+group-room {m} {n} room g =
+    record {
+      some = room .some;
+      inputs = room .inputs;
+      small = room .small;
+      for-cells = room .for-cells;
+      for-xs = le-trans (pow-le-pow-right (room .some) (size-le n g)) (room .for-xs);
+      for-ys = le-trans (pow-le-pow-right (room .some) (size-le n (others n g))) (room .for-ys);
+    }
+
+-- the most cells of a small table, and the most assignments that small arrays have room for
 abbrev pub fewCells : ℕ
 fewCells = 256
-
--- room to list a few classes, without work arrays from the caller: the cells of a table within a sheet's bounds, and a place for each class
-pub record ListRoom (m n : ℕ) (cells : List ℕ) (enough : ℕ) (out : List ℕ) : Type 0 where
-  pub some : 0 < m
-  pub levels : m ≤ mostLevels
-  pub inputs : n ≤ mostInputs
-  pub small : m ^ n ≤ mostCells
-  pub for-cells : m ^ n ≤ length cells
-  pub few : enough ≤ mostLevels + 1
-  pub for-out : enough ≤ length out
-
-pub few-room : {m n enough : ℕ} {cells out : List ℕ} → ListRoom m n cells enough out → (xs ys : List ℕ) → m ^ n ≤ length xs → m ^ n ≤ length ys → OffsetRoom m n cells xs ys
-few-room few xs ys for-xs for-ys =
-    record {
-      some = few .some;
-      inputs = omega (arith, few .inputs);
-      small = omega (arith, few .small);
-      for-cells = few .for-cells;
-      for-xs = for-xs;
-      for-ys = for-ys;
-    }

@@ -10,10 +10,11 @@ ghost use Rattle.radix.specs.Fronts.{Front};
 ghost use Rattle.classes.specs.Firsts.{classesOver};
 ghost use Rattle.classes.specs.Chains.{NoChains};
 ghost use Rattle.classes.specs.Keys.{HeadsFor, Keys};
-ghost use Rattle.classes.specs.Within.{Within, OffsetRoom};
+ghost use Rattle.classes.specs.Within.{Within, OffsetRoom, GroupRoom};
 use crate::keys;
 use radix::limits::MOST_LEVELS;
 use radix::offsets;
+use radix::powers;
 
 // Puts the first of each class among the assignments xs to the front of `firsts`, stops at `enough` of them, and returns how many it put. `heads` and
 // `links` store the chains of these, by their keys over the first `width` columns.
@@ -70,12 +71,12 @@ pub fn group_firsts(
     links: &mut [u16],
     heads: &mut [u16],
 ) -> usize
-    requires { ⌜ (OffsetRoom m n (now cells) (now xs) (now ys)) × (m ≤ mostLevels) × (enough ≤ length (now firsts)) × (enough ≤ length (now links)) × (enough ≤ mostCells)
-        × NoChains (now heads) × (HeadsFor columns (length (now heads))) × (g < 2 ^ n) ⌝ }
+    requires { ⌜ (GroupRoom m n g (now cells) (now xs) (now ys)) × (m ≤ mostLevels) × (enough ≤ length (now firsts)) × (enough ≤ length (now links))
+        × (enough ≤ mostCells) × NoChains (now heads) × (HeadsFor columns (length (now heads))) × (g < 2 ^ n) ⌝ }
     ensures { λ r. ⌜ Front (take enough (classes m n (inkIn (now (cells .entry))) g)) r (now (firsts .exit)) ⌝ }
 {
     let count = offsets::offsets(m, n, g, xs);
-    let other = offsets::other_offsets(m, n, g, ys);
+    let other = offsets::offsets(m, n, powers::power(2, n) - 1 - g, ys);
     let width = keys::key_width(columns, other);
     class_firsts(
         m,

@@ -2,6 +2,5 @@
 pub mod alike;
 pub mod counting;
 pub mod differences;
-pub mod few;
 pub mod keys;
 pub mod multiplicity;

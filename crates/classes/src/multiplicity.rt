@@ -3,21 +3,24 @@ ghost use mathlib.Core.Path.{_≡_};
 ghost use mathlib.Core.Bool.{true};
 ghost use Prim.Native.Nat.{_^_, _≤_, _<_};
 ghost use lib.ListN.{length};
-ghost use Rattle.rules.specs.Limits.{sizeFits};
-ghost use Rattle.rules.specs.Groups.Groups.{multiplicity};
+ghost use Rattle.rules.specs.Limits.{sizeFits, mostCells};
+ghost use Rattle.rules.specs.Groups.Groups.{size, others, multiplicity};
 ghost use Rattle.rules.specs.Calls.Answers.{inkIn};
 ghost use Rattle.rules.specs.Calls.Multiplicity.{multiplicityCall};
 ghost use Rattle.answers.specs.AnswerMaps.{answerOf};
 ghost use Rattle.laws.specs.Calls.Multiplicity.{groupAnswer};
 ghost use Rattle.classes.specs.Within.{fewCells};
 use crate::counting;
-use crate::few;
 use crate::keys;
 use answers::answer::Answer;
 use answers::outcome::Outcome;
 use cells::bare;
 use radix::limits;
+use radix::members;
 use radix::powers;
+
+// The most assignments that small work arrays have room for. Clearing large ones takes longer than counting few assignments.
+const FEW_CELLS: usize = 256;
 
 // Returns the number of classes of a group. The arrays are for work.
 fn counted(
@@ -30,12 +33,13 @@ fn counted(
     firsts: &mut [u16],
     links: &mut [u16],
 ) -> usize
-    requires { ⌜ (sizeFits m n ≡ true) × (length (now cells) ≡ m ^ n) × (group < 2 ^ n) × (m ^ n ≤ length (now xs)) × (m ^ n ≤ length (now ys))
-        × (m ^ n ≤ length (now firsts)) × (m ^ n ≤ length (now links)) ⌝ }
+    requires { ⌜ (sizeFits m n ≡ true) × (length (now cells) ≡ m ^ n) × (group < 2 ^ n) × (m ^ size n group ≤ length (now xs))
+        × (m ^ size n (others n group) ≤ length (now ys)) × (length (now xs) ≤ length (now firsts)) × (length (now xs) ≤ length (now links))
+        × (length (now xs) ≤ mostCells) ⌝ }
     ensures { λ r. ⌜ r ≡ multiplicity m n (inkIn (now (cells .entry))) group ⌝ }
 {
     let mut heads = [0u16; keys::KEYS];
-    let enough = cells.len();
+    let enough = xs.len();
     counting::group_firsts(
         m,
         n,
@@ -51,15 +55,16 @@ fn counted(
     )
 }
 
-// Does the same with arrays for a small table.
+// Does the same with small arrays.
 fn counted_small(m: usize, n: usize, cells: &[u8], group: usize) -> usize
-    requires { ⌜ (sizeFits m n ≡ true) × (length (now cells) ≡ m ^ n) × (group < 2 ^ n) × (length (now cells) ≤ fewCells) ⌝ }
+    requires { ⌜ (sizeFits m n ≡ true) × (length (now cells) ≡ m ^ n) × (group < 2 ^ n)
+        × (m ^ size n group ≤ fewCells) × (m ^ size n (others n group) ≤ fewCells) ⌝ }
     ensures { λ r. ⌜ r ≡ multiplicity m n (inkIn (now (cells .entry))) group ⌝ }
 {
-    let mut xs = [0u16; few::FEW_CELLS];
-    let mut ys = [0u16; few::FEW_CELLS];
-    let mut firsts = [0u16; few::FEW_CELLS];
-    let mut links = [0u16; few::FEW_CELLS];
+    let mut xs = [0u16; FEW_CELLS];
+    let mut ys = [0u16; FEW_CELLS];
+    let mut firsts = [0u16; FEW_CELLS];
+    let mut links = [0u16; FEW_CELLS];
     counted(
         m,
         n,
@@ -110,10 +115,14 @@ fn group_answer(m: usize, n: usize, cells: &[u8], group: usize) -> Answer
             place: 0,
         };
     }
-    if cells.len() <= few::FEW_CELLS {
-        return Answer::Accepted(counted_small(m, n, cells, group));
+    let members = members::members_of(group);
+    if FEW_CELLS < powers::power(m, members) {
+        return Answer::Accepted(counted_large(m, n, cells, group));
     }
-    Answer::Accepted(counted_large(m, n, cells, group))
+    if FEW_CELLS < powers::power(m, n - members) {
+        return Answer::Accepted(counted_large(m, n, cells, group));
+    }
+    Answer::Accepted(counted_small(m, n, cells, group))
 }
 
 // Returns the number of classes of a group, or refusal 9, 10, 27 or 11. The caller may pass any arguments.

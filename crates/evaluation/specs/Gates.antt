@@ -1,13 +1,7 @@
 -- One gate at many assignments: what is required, what is promised, and the step to the next assignment.
 -- Assumes nothing.
-use Prim.Native.Nat.{ℕ, _+_, _*_, _≤_, _<_}
-use mathlib.Core.Path.{_≡_, refl, _∙_}
-use mathlib.Core.List.{List}
-use native.Mathlib.Decide.{ℕ-discrete}
-use native.Mathlib.Omega.{arith}
-use lib.ListN.{length, getD, set, length-set}
-use lib.Seq.{getD-set-same, getD-set-other}
-use lib.Arith.{digits-lt}
+use Rattle.laws.specs.Prelude.{ℕ, _<_, _≤_, _+_, _*_, _≡_, _∙_, refl, List, ℕ-discrete, arith, length, getD, set, length-set, getD-set-same}
+use Rattle.laws.specs.Prelude.{getD-set-other, digits-lt}
 
 -- the gate's digits are inside `digits`; the levels of its left and right are below m and come before `to`, where its values will go
 pub record GateReady (m : ℕ) (digits : List ℕ) (from left right to count : ℕ) (wires : List ℕ) : Type 0 where
@@ -28,18 +22,11 @@ pub record GateDone (m : ℕ) (digits : List ℕ) (from left right to count : �
   pub kept : (q : ℕ) → q < to → getD after q 0 ≡ getD before q 0
   pub new : (p : ℕ) → p < count → getD after (to + p) 0 ≡ digitAt m digits from before (left + p) (right + p)
 
--- the places of a turn are within the wires
-abbrev pub Places : (left right to count p : ℕ) → List ℕ → Type 0
-Places left right to count p wires = (left + p < length wires) × (right + p < length wires) × (to + p < length wires) × (p < count)
-
 pub gate-none : (m : ℕ) (digits : List ℕ) (from left right to : ℕ) (wires : List ℕ) → GateDone m digits from left right to 0 wires wires
 gate-none m digits from left right to wires = record { same = refl; kept = λ q h. refl; new = λ p h. absurd (omega arith) }
 
 module _ (m : ℕ) (digits : List ℕ) (from left right to count : ℕ) (before : List ℕ) (ready : GateReady m digits from left right to count before)
     (p : ℕ) (after : List ℕ) (done : GateDone m digits from left right to p before after) (turn : p < count) where
-  pub places-there : Places left right to count p after
-  places-there = omega (arith, ready .left-there, ready .right-there, ready .room, done .same)
-
   -- what a turn reads: a level of the left, one of the right, a digit
   pub left-read : getD after (left + p) 0 ≡ getD before (left + p) 0
   left-read = done .kept (left + p) (omega (arith, ready .left-there))

@@ -1,5 +1,4 @@
 pub mod Fast
 pub mod Gates
-pub mod Inputs
-pub mod TableBlocks
+pub mod Lists
 pub mod Values

@@ -1,15 +1,8 @@
 -- A net at many assignments: what is required, what is promised, and the step to the next gate.
 -- Assumes nothing.
-use Prim.Native.Nat.{ℕ, suc, _+_, _-_, _*_, _≤_, _<_}
-use mathlib.Core.Path.{_≡_, refl, sym, ap, ap₂, _∙_}
-use mathlib.Core.List.{List, [], _∷_, _++_, map}
-use native.Mathlib.Nat.{zero-add, add-zero, zero-mul, suc-mul, add-assoc, mul-le-mul, mul-le-mul-right}
-use native.Mathlib.Numerals.{add-one}
-use native.Mathlib.Decide.{ℕ-discrete}
-use native.Mathlib.Omega.{arith}
-use lib.ListN.{length, getD, drop, set, length-set}
-use lib.Seq.{getD-set-same, getD-set-other, getD-take, getD-drop}
-use lib.Arith.{digits-lt}
+use Rattle.laws.specs.Prelude.{ℕ, _<_, _≤_, _+_, _-_, suc, _*_, _≡_, _∙_, sym, ap, refl, ap₂, List, [], _∷_, _++_, map, zero-add, add-zero, zero-mul}
+use Rattle.laws.specs.Prelude.{mul-le-mul-right, suc-mul, mul-le-mul, add-assoc, add-one, ℕ-discrete, arith, length, getD, drop, set, length-set}
+use Rattle.laws.specs.Prelude.{getD-set-same, getD-set-other, getD-take, getD-drop, digits-lt}
 use Rattle.rules.specs.Lists.{range, withEach}
 use Rattle.rules.specs.Nets.Value.{gateValue, withGates, valueWith}
 use Rattle.laws.specs.Lists.Ranges.{map-range-at, map-range-suc, map-range-same}
@@ -120,7 +113,8 @@ module _ (net : Net) (starts₀ : List ℕ) (base count : ℕ) (before : List �
         known = levelsIn wires starts (net .inputs + k) p
 
         known-at : (j : ℕ) → j < net .inputs + k → getD known j 0 ≡ getD wires (getD starts j 0 + p) 0
-        known-at j h = map-range-at (λ j. getD wires (getD starts j 0 + p) 0) 0 (net .inputs + k) j 0 h ∙ ap (λ (i : ℕ). getD wires (getD starts i 0 + p) 0) (zero-add j)
+        known-at j h =
+            map-range-at (λ j. getD wires (getD starts j 0 + p) 0) 0 (net .inputs + k) j 0 h ∙ ap (λ (i : ℕ). getD wires (getD starts i 0 + p) 0) (zero-add j)
 
         known-below : (j : ℕ) → j < net .inputs + k → getD known j 0 < m
         known-below j h = rw (known-at j h) (done .levels j p h low)
@@ -133,8 +127,14 @@ module _ (net : Net) (starts₀ : List ℕ) (base count : ℕ) (before : List �
             let v = getD known (getD (net .right) k 0) 0 in
             let size = m * m in
             gate .new p low
-            ∙ (λ i. getD (net .digits) (is-from i + sym (known-at (getD (net .left) k 0) (back .0)) i * m + sym (known-at (getD (net .right) k 0) (back .1)) i) 0)
-            ∙ rw (add-assoc, ← (getD-drop (k * size) (net .digits) (u * m + v) 0), ← (getD-take size (drop (k * size) (net .digits)) (u * m + v) 0 (digits-lt (known-below (getD (net .left) k 0) (back .0)) (known-below (getD (net .right) k 0) (back .1)))))
+            ∙ (λ i. getD (net .digits) (is-from i + sym (known-at (getD (net .left) k 0) (back .0)) i * m + sym (known-at (getD (net .right) k 0) (back .1)) i)
+            0)
+            ∙ rw (
+              add-assoc,
+              ← (getD-drop (k * size) (net .digits) (u * m + v) 0),
+              ← (getD-take size (drop (k * size) (net .digits)) (u * m + v) 0
+                  (digits-lt (known-below (getD (net .left) k 0) (back .0)) (known-below (getD (net .right) k 0) (back .1)))),
+            )
 
         gate-below : getD after (to + p) 0 < m
         unfolding gateValue gateOf
@@ -209,5 +209,6 @@ module _ (net : Net) (starts₀ : List ℕ) (base count : ℕ) (before : List �
               sym (map-range-at (λ j. getD wires (getD starts j 0 + p) 0) 0 (net .inputs + k) (net .inputs + net .gates - 1) 0 last
               ∙ ap (λ (i : ℕ). getD wires (getD starts i 0 + p) 0) (zero-add _))
               ∙ ap (λ (vs : List ℕ). getD vs (net .inputs + net .gates - 1) 0) (done .values p h)
-              ∙ (λ i. getD (withGates (net .levels) (levelsIn before starts₀ (net .inputs) p) (map (gateOf net) (range 0 (is i)))) (net .inputs + sym (gates-length net) i - 1) 0);
+              ∙ (λ i. getD (withGates (net .levels) (levelsIn before starts₀ (net .inputs) p) (map (gateOf net) (range 0 (is i))))
+              (net .inputs + sym (gates-length net) i - 1) 0);
         }

@@ -1,2 +1,3 @@
-// One gate at many assignments, for two levels. For speed only: `looked_up_values` in gate.rt has the same contract for any number of levels.
+// Quicker ways to a net's values. For speed only: a simpler function does what each of these does.
+pub mod by_table;
 pub mod two_levels;

@@ -1,10 +1,6 @@
 -- The net of a number, from its wiring.
 -- Assumes nothing.
-use Prim.Native.Nat.{ℕ, _^_, _<_}
-use mathlib.Core.Path.{_≡_, _∙_, subst⁻¹}
-use mathlib.Core.Bool.{true}
-use mathlib.Core.List.{List}
-use native.Mathlib.Omega.{arith}
+use Rattle.laws.specs.Prelude.{ℕ, _<_, _^_, _≡_, _∙_, subst⁻¹, true, List, arith}
 use Rattle.rules.specs.Limits.{sizeFits}
 use Rattle.rules.specs.Groups.Marks.{marksOf}
 use Rattle.rules.specs.Nets.Wirings.{linksOf}

@@ -1,13 +1,7 @@
 -- The cells and the marks of a table in their buffers, and the count of its trees.
 -- Assumes nothing.
-use Prim.Native.Nat.{ℕ, zero, suc, _-_, _^_, _≤_, _<_}
-use mathlib.Core.Path.{_≡_, refl, ap, _∙_, subst⁻¹}
-use mathlib.Core.Bool.{true}
-use mathlib.Core.List.{List}
-use native.Mathlib.Nat.{lt-of-lt-of-le, sub-zero}
-use native.Mathlib.Omega.{arith}
-use lib.ListN.{length, getD, replicate, take}
-use lib.Pow.{pow-mono}
+use Rattle.laws.specs.Prelude.{ℕ, _<_, _≤_, _-_, _^_, suc, zero, _≡_, _∙_, ap, refl, subst⁻¹, true, List, sub-zero, lt-of-lt-of-le, arith, length, getD}
+use Rattle.laws.specs.Prelude.{take, replicate, pow-mono}
 use Rattle.rules.specs.Limits.{mostInputs, sizeFits}
 use Rattle.rules.specs.Groups.Marks.{marksOf, storedMarks}
 use Rattle.rules.specs.Nets.Leaves.{leavesOf}

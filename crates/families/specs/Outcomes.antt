@@ -1,8 +1,6 @@
 -- What the answers and buffers of the two calls represent, and their outcomes in the order of the code.
 -- Assumes nothing.
-use Prim.Native.Nat.{ℕ, _≤_, _<_}
-use mathlib.Core.Path.{_≡_, sym, _∙_, subst}
-use mathlib.Core.List.{List}
+use Rattle.laws.specs.Prelude.{ℕ, _<_, _≤_, _≡_, _∙_, sym, subst, List}
 use Rattle.rules.specs.Sheets.Printed.{printedNet}
 use Rattle.rules.specs.Groups.Marks.{marksOf}
 use Rattle.rules.specs.Calls.Answers.{accepted, refused, inkIn}

@@ -23,7 +23,7 @@ pub fn family_count(s: &[u8], cells: &mut [u8], marks: &mut [u8]) -> Answer
         Outcome::Accepted => {
             let mut own = [0u8; own::MOST_GROUPS];
             let mut counts = [0u64; own::MOST_GROUPS];
-            let trees = marked::count_marked(
+            let counted = marked::count_marked(
                 header.levels,
                 header.inputs,
                 &inks[0..count],
@@ -32,7 +32,7 @@ pub fn family_count(s: &[u8], cells: &mut [u8], marks: &mut [u8]) -> Answer
                 marks,
                 &mut counts,
             );
-            Answer::Accepted(trees as usize)
+            Answer::Accepted(counted.trees as usize)
         }
     }
 }

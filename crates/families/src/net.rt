@@ -13,23 +13,22 @@ ghost use Rattle.tree_counts.specs.Counts.{Countable};
 use gate_tables::fill;
 use nets::forms;
 use tree_counts::numbered;
-use wirings::leaves::group;
 
-// Returns the net of number r of a table; r is below the count of trees. `marks` has exactly the table's marks.
+// Returns the net of number r of a table; r is below the count of trees. `marks` has exactly the table's marks, and `leaves` is the group of its leaves.
 pub fn family_net(
     m: usize,
     n: usize,
     cells: &[u8],
     marks: &[u8],
     counts: &mut [u64],
+    leaves: usize,
     r: u64,
 ) -> forms::Net
     requires { ⌜ (sizeFits m n ≡ true) × (m ^ n ≤ length (now cells)) × ((p : ℕ) → p < m ^ n → inkIn (now cells) p < m)
         × ((now marks) ≡ marksOf m n (inkIn (now cells))) × (Countable (now marks) (now counts) (leavesOf m n (inkIn (now cells))))
-        × (r < treeCount n (marksOf m n (inkIn (now cells))) (leavesOf m n (inkIn (now cells)))) ⌝ }
+        × (r < treeCount n (marksOf m n (inkIn (now cells))) (leavesOf m n (inkIn (now cells)))) × (leaves ≡ leavesOf m n (inkIn (now cells))) ⌝ }
     ensures { λ net. ⌜ NetOf m n (familyGates m n (inkIn (now (cells .entry))) (marksOf m n (inkIn (now (cells .entry)))) r) net ⌝ }
 {
-    let leaves = group::leaves(m, n, cells);
     let wiring = numbered::wiring_of(n, marks, counts, leaves, r);
     fill::fill(m, n, cells, wiring)
 }

@@ -36,15 +36,24 @@ fn tree_marked(
     let inputs = header.inputs;
     let mut own = [0u8; own::MOST_GROUPS];
     let mut counts = [0u64; own::MOST_GROUPS];
-    let count = marked::count_marked(levels, inputs, inks, cells, &mut own, marks, &mut counts);
-    if count <= order {
+    let counted = marked::count_marked(levels, inputs, inks, cells, &mut own, marks, &mut counts);
+    if counted.trees <= order {
         return Answer::Refused {
             number: 17,
             place: order as usize,
         };
     }
     let end = powers::power(2, inputs);
-    let net = net::family_net(levels, inputs, inks, &own[0..end], &mut counts, order);
+    let leaves = counted.leaves;
+    let net = net::family_net(
+        levels,
+        inputs,
+        inks,
+        &own[0..end],
+        &mut counts,
+        leaves,
+        order,
+    );
     output::write_sheet(s, header, net, out)
 }
 

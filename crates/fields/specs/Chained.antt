@@ -1,11 +1,6 @@
 -- One reader after another, expressed by the steps of the code.
 -- Assumes nothing.
-use Prim.Native.Nat.{ℕ, _≤_, _<_}
-use mathlib.Core.Path.{_≡_, refl, sym, _∙_}
-use mathlib.Core.List.{List}
-use native.Mathlib.Omega.{arith}
-use lib.ListN.{length, drop, drop-of-length-le}
-use lib.Seq.{drop-cons}
+use Rattle.laws.specs.Prelude.{ℕ, _<_, _≤_, _≡_, _∙_, sym, refl, List, arith, length, drop, drop-of-length-le, drop-cons}
 use Rattle.rules.specs.Sheets.Fields.{Read, read, turnedBack, Reader, then, _>>=_, give, closed}
 use Rattle.rules.specs.Sheets.Reading.{answered}
 use Rattle.fields.specs.Steps.{stepAs, nothing}
@@ -86,7 +81,8 @@ pub answers-end : {A B : Type 0} (lines : Reader A) (f : A → B) (s : List ℕ)
     → (Held : Type 0) → ((value next : ℕ) → step ≡ On value next → Held) → (o : Outcome) → o ≡ endOf s step
     → Answers s at (lines >>= λ x. closed >>= λ _. give (f x)) (f a) Held o
 unfolding endOf then answered
-answers-end {A} {B} lines f s at a step reads Held held o is = record { answer = rw (← reads, is) (given step); held = λ accepts. on step refl (sym is ∙ accepts) }
+answers-end {A} {B} lines f s at a step reads Held held o is =
+    record { answer = rw (← reads, is) (given step); held = λ accepts. on step refl (sym is ∙ accepts) }
   where
     closes : (x : Read (Unit {0})) → outcomeAs (f a) (outcomeOf x) ≡ answered (then x (λ _. give (f a)))
     closes (read u rest place) = refl

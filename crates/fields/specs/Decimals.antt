@@ -1,9 +1,6 @@
 -- Decimal values of one and of two digits, compared with a field's bytes.
 -- Assumes nothing.
-use Prim.Native.Nat.{ℕ, _+_, _/_, _%_, _≤_, _<_}
-use mathlib.Core.Path.{_≡_, ap, _∙_}
-use mathlib.Core.List.{List, [], _∷_, _++_}
-use native.Mathlib.Omega.{arith}
+use Rattle.laws.specs.Prelude.{ℕ, _<_, _≤_, _+_, _%_, _/_, _≡_, _∙_, ap, List, [], _∷_, _++_, arith}
 use Rattle.rules.specs.Text.{digitByte, decimal, zeroByte}
 use Rattle.laws.specs.Numbers.Decimals.{decimal-one as one-digit, decimal-more}
 

@@ -1,4 +1,5 @@
 pub mod FirstLines
+pub mod Keys
 pub mod NameLine
 pub mod Names
 pub mod Same

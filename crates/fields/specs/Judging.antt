@@ -1,15 +1,7 @@
 -- A field that was judged, with the separator after it.
 -- Assumes nothing.
-use Prim.Native.Nat.{ℕ, suc, _+_, _≤_, _<_}
-use mathlib.Core.Path.{_≡_, refl, sym, ap, _∙_}
-use mathlib.Core.List.{List, [], _∷_}
-use mathlib.Core.Bool.{Bool, true, false}
-use native.Mathlib.Numerals.{add-one}
-use native.Mathlib.Omega.{arith}
-use lib.ListN.{length, drop, getD, drop-of-length-le}
-use lib.Seq.{drop-cons, drop-drop}
-use lib.Dec.{eqb}
-use borrow.Author.Tests.{eq-eqb, ne-eqb}
+use Rattle.laws.specs.Prelude.{ℕ, _<_, _≤_, _+_, suc, _≡_, _∙_, sym, ap, refl, true, false, Bool, List, [], _∷_, add-one, arith, eqb, length, getD, drop}
+use Rattle.laws.specs.Prelude.{drop-of-length-le, drop-cons, drop-drop, eq-eqb, ne-eqb}
 use Rattle.rules.specs.Sheets.Fields.{Read, read, turnedBack, Judge, judged, separator, spaces, looseSeparator, separatorIn, afterFieldIn, fieldOfIn}
 use Rattle.rules.specs.Sheets.Fields.{field, fieldIn, run, past, then, pastSpaces, spacesIn, Layout, strict, loose}
 use Rattle.rules.specs.Text.{space, spaceByte}
@@ -70,7 +62,8 @@ module _ (layout : Layout) (s : List ℕ) (at : ℕ) (w : List ℕ) (v : Verdict
     full = rw (← is) (go w some)
       where
         go : (w : List ℕ) → (length w ≡ 0 → ⊥)
-            → fieldOfIn layout (λ _. judgedAs itself v) due w (past (drop at s)) at ≡ afterFieldIn layout (judgedAs itself v) due (past (drop at s)) at (at + length w)
+            → fieldOfIn layout (λ _. judgedAs itself v) due w (past (drop at s)) at ≡ afterFieldIn layout (judgedAs itself v) due (past (drop at s)) at
+            (at + length w)
         go [] h = absurd (h refl)
         go (b ∷ w) h = refl
 
@@ -144,7 +137,8 @@ module _ {A : Type 0} (f : ℕ → A) where
       step-mapped s r ∙ (ap mapped after ∙ field-mapped layout judge v due (run (drop at s)) (past (drop at s)) at (judges ∙ ap judge is))
 
   -- the same when the judge is a test
-  pub field-tested-in : (layout : Layout) (judge : Judge A) (due : ℕ) (s : List ℕ) (at : ℕ) (w : List ℕ) (test : Bool) (value number : ℕ) (v : Verdict) (r : Step)
+  pub field-tested-in : (layout : Layout) (judge : Judge A) (due : ℕ) (s : List ℕ) (at : ℕ) (w : List ℕ) (test : Bool) (value number : ℕ) (v : Verdict)
+      (r : Step)
       → w ≡ run (drop at s) → v ≡ tested test value number → judged test (f value) number ≡ judge w → stepAs itself s r ≡ judgedFieldIn layout v due s at
       → stepAs f s r ≡ fieldIn layout judge due (drop at s) at
   unfolding tested

@@ -1,15 +1,7 @@
 -- A field's end, and the end of some spaces, byte by byte.
 -- Assumes nothing.
-use Prim.Native.Nat.{ℕ, _+_, _-_, _≤_, _<_}
-use mathlib.Core.Path.{_≡_, refl, sym, _∙_}
-use mathlib.Core.Bool.{true, false}
-use mathlib.Core.List.{List, []}
-use native.Mathlib.Nat.{add-zero, add-sub-cancel-left}
-use native.Mathlib.Numerals.{add-one}
-use native.Mathlib.Omega.{arith}
-use lib.ListN.{length, take, drop, getD, length-drop, drop-of-length-le}
-use lib.Seq.{drop-cons, drop-drop}
-use borrow.Author.Tests.{eq-eqb, ne-eqb}
+use Rattle.laws.specs.Prelude.{ℕ, _<_, _≤_, _+_, _-_, _≡_, _∙_, sym, refl, true, false, List, [], add-zero, add-sub-cancel-left, add-one, arith, length}
+use Rattle.laws.specs.Prelude.{getD, take, drop, length-drop, drop-of-length-le, drop-cons, drop-drop, eq-eqb, ne-eqb}
 use Rattle.rules.specs.Text.{space, newline, spaceByte, newlineByte}
 use Rattle.rules.specs.Sheets.Fields.{isSeparator, run, pastSpaces, spacesIn}
 use Rattle.laws.specs.Lists.Runs.{fieldEnd, run-front, run-most, at-space, at-other, spaces-rest}

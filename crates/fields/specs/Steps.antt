@@ -1,10 +1,7 @@
 -- The meaning of the code's answers in the definitions.
 -- Assumes nothing.
-use Prim.Native.Nat.{ℕ}
-use mathlib.Core.Bool.{Bool, cond}
-use mathlib.Core.List.{List}
+use Rattle.laws.specs.Prelude.{ℕ, Bool, cond, List, drop}
 use mathlib.Core.Option.{Option, none, some}
-use lib.ListN.{drop}
 use Rattle.rules.specs.Lists.{same}
 use Rattle.rules.specs.Sheets.Fields.{Read, read, turnedBack, Judge, Judged, good, bad, judged, fieldIn, strict, loose}
 use Rattle.rules.specs.Sheets.Fields as fields

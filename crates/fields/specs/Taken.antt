@@ -1,13 +1,8 @@
 -- What follows from a field that was read: its value is good, and the next place is after its separator (in a strict sheet directly after it).
 -- Assumes nothing.
-use Prim.Native.Nat.{ℕ, suc, _+_, _-_, _≤_, _<_}
-use mathlib.Core.Path.{_≡_, refl, sym, ap, _∙_}
-use mathlib.Core.Bool.{Bool, true, false, _&&_, and-eq-true-iff}
+use Rattle.laws.specs.Prelude.{ℕ, _<_, _≤_, _+_, _-_, suc, _≡_, _∙_, sym, ap, refl, true, false, Bool, _&&_, and-eq-true-iff, List, [], _∷_, arith, eqb}
+use Rattle.laws.specs.Prelude.{length, drop, length-append, length-drop}
 use mathlib.Core.Option.{Option, none, some}
-use mathlib.Core.List.{List, [], _∷_}
-use native.Mathlib.Omega.{arith}
-use lib.ListN.{length, drop, length-append, length-drop}
-use lib.Dec.{eqb}
 use Rattle.rules.specs.Lists.{same}
 use Rattle.rules.specs.Text.{space, isDigit, decimal, zeroByte}
 use Rattle.rules.specs.Limits.{levelsFit, cellsFit, fewestInputs, mostInputs}
@@ -54,7 +49,8 @@ unfolding looseSeparator then spaces
 loose-read {A} a v due t rest place next e = go (eqb due space) e
   where
     go : (test : Bool)
-        → _≡_ {A = Read A} (elim test [ true ↦ then (separator a due t place) spaces | false ↦ then (spaces a t place) (λ a. separator a due) ]) (read v rest next)
+        → _≡_ {A = Read A} (elim test [ true ↦ then (separator a due t place) spaces | false ↦ then (spaces a t place) (λ a. separator a due) ])
+        (read v rest next)
         → (v ≡ a) × (place < next) × (next ≤ place + length t)
     go true q =
         let (u, p, one, more) = then-spaces (separator a due t place) v rest next q in
@@ -68,7 +64,8 @@ loose-read {A} a v due t rest place next e = go (eqb due space) e
 -- in either layout
 parted-read : (layout : Layout) {A : Type 0} (a v : A) (due : ℕ) (t rest : List ℕ) (place next : ℕ)
     → separatorIn layout a due t place ≡ read v rest next → (v ≡ a) × (place < next) × (next ≤ place + length t)
-parted-read strict a v due t rest place next e = let told = separator-read a v due t rest place next e in (told .0, omega (arith, told .1), omega (arith, told .1, told .2))
+parted-read strict a v due t rest place next e =
+    let told = separator-read a v due t rest place next e in (told .0, omega (arith, told .1), omega (arith, told .1, told .2))
 parted-read loose a v due t rest place next e = loose-read a v due t rest place next e
 
 -- the verdict, and the separator after the field

@@ -1,9 +1,6 @@
 -- Two or three fixed words, to the end of their line.
 -- Assumes nothing.
-use Prim.Native.Nat.{ℕ}
-use mathlib.Core.Path.{_≡_, refl, ap, _∙_}
-use mathlib.Core.List.{List}
-use lib.ListN.{drop}
+use Rattle.laws.specs.Prelude.{ℕ, _≡_, _∙_, ap, refl, List, drop}
 use Rattle.rules.specs.Sheets.Fields.{Reader, _>>=_, then, field, fieldIn, Layout, strict}
 use Rattle.rules.specs.Text.{spaceByte, newlineByte}
 use Rattle.fields.specs.Chained.{chained-back, chained-on, field-then-then}

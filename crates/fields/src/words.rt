@@ -31,7 +31,8 @@ pub fn word_field(s: &[u8], at: usize, word: &[u8], due: u8) -> Step
 
 // Reads two words, to the end of their line.
 pub fn two_words_in(s: &[u8], at: usize, first: &[u8], second: &[u8], layout: Layout) -> Step
-    ensures { λ r. ⌜ stepAs nothing (now (s .entry)) r ≡ twoWordsIn (layoutOf layout) (now (first .entry)) (now (second .entry)) (drop at (now (s .entry))) at ⌝ }
+    ensures { λ r. ⌜ stepAs nothing (now (s .entry)) r ≡ twoWordsIn (layoutOf layout) (now (first .entry)) (now (second .entry))
+        (drop at (now (s .entry))) at ⌝ }
 {
     match word_field_in(s, at, first, SPACE, layout) {
         Step::Back { number, place } => Step::Back { number, place },

@@ -1,9 +1,11 @@
-pub mod DigitsReady
+pub mod ClassOrder
 pub mod Filled
 pub mod GateDigits
-pub mod GateReady
+pub mod GatePass
+pub mod GateRows
 pub mod Growth
+pub mod JoinSums
 pub mod MadeNet
-pub mod SampledDigits
 pub mod Samples
 pub mod Sized
+pub mod Store

@@ -1,24 +1,19 @@
 -- The net that a choice of parts makes from a table, by value: its gates are those of the definitions, and they keep the rules of a net sheet.
 -- Assumes nothing.
-use Prim.Native.Nat.{ℕ, _^_, _≤_, _<_}
-use mathlib.Core.Path.{_≡_, refl, sym, ap, _∙_, subst, subst⁻¹}
-use mathlib.Core.Logic.{_≢_}
-use mathlib.Core.Bool.{true}
-use mathlib.Core.List.{List}
-use native.Mathlib.Omega.{arith}
-use lib.ListN.{length, take}
-use lib.Seq.{getD-take}
+use Rattle.laws.specs.Prelude.{ℕ, _<_, _≤_, _+_, _-_, _^_, suc, zero, _≡_, _∙_, sym, ap, refl, subst, ap₂, subst⁻¹, _≢_, true, false, Bool, List, arith}
+use Rattle.laws.specs.Prelude.{eqb, length, take, getD-take, eqb-false}
 use Rattle.rules.specs.Limits.{mostInputs, sizeFits}
 use Rattle.rules.specs.Sheets.Sheets.{Gate}
 use Rattle.rules.specs.Groups.Groups.{size, wholeGroup}
-use Rattle.rules.specs.Groups.Marks.{markIn, marksOf}
+use Rattle.rules.specs.Groups.Marks.{inside, markIn, marksOf}
 use Rattle.rules.specs.Nets.Wirings as rules
-use Rattle.rules.specs.Nets.Wirings.{wiringBy, linksOf}
+use Rattle.rules.specs.Nets.Wirings.{firstInput, wiringBy, linksOf}
 use Rattle.rules.specs.Nets.Filling.{inputGroups, filled}
 use Rattle.rules.specs.Nets.Leaves.{leavesOf}
 use Rattle.rules.specs.Nets.Settled.{splitOf, settledWiring, settledGates}
 use Rattle.rules.specs.Nets.Shallow.{shallowWiring, shallowGates}
 use Rattle.rules.specs.Sheets.SheetRules.{IsNet}
+use Rattle.radix.specs.Parts.{inside-part}
 use Rattle.nets.specs.declared.forms.Net.{Net}
 use Rattle.nets.specs.Forms.{gatesOf}
 use Rattle.laws.specs.Numbers.Sizes.{sized}
@@ -28,7 +23,7 @@ use Rattle.trees.specs.Trees.Trees.{WiringOf, EachGate}
 use Rattle.trees.specs.Groups.Classes.{Few}
 use Rattle.trees.specs.Groups.Members.{member-inside, size-le}
 use Rattle.trees.specs.Groups.MarkRule.{marked}
-use Rattle.trees.specs.Trees.MarkTwo.{Split, Splits, settled-splits, wiring-of, wiring-agree, each-gate, two-says}
+use Rattle.trees.specs.Trees.MarkTwo.{Split, Splits, parted, a-below, b-below, a-inside, b-inside, settled-splits, wiring-of, each-gate, two-says}
 use Rattle.trees.specs.Filling.Fillings.{Fillable, wiring-fillable}
 use Rattle.trees.specs.Trees.Existence.{filled-computes}
 use Rattle.trees.specs.Leaves.LeafGroup.{leaves-below, leaves-hold, leaves-several}
@@ -98,15 +93,15 @@ pub marks-in : (m n : ℕ) (f : ℕ → ℕ) (marks : List ℕ) → take (2 ^ n)
 marks-in m n f marks front room =
     record { room = room; same = λ g g<. sym (getD-take (2 ^ n) marks g 0 g<) ∙ ap (λ (l : List ℕ). markIn l g) front }
 
--- what the shallow choice also needs: the fewest layers of every group of mark 2
-abbrev pub LayersKnown : Choice → ℕ → List ℕ → List ℕ → Type 0
-LayersKnown Settled n marks fewest = Unit {0}
-LayersKnown Shallow n marks fewest = (2 ^ n ≤ length fewest) × WiringKnown n marks (2 ^ n) fewest
+-- what the shallow choice also needs: the fewest layers of every group of mark 2 inside the leaves
+abbrev pub LayersKnown : Choice → ℕ → List ℕ → ℕ → List ℕ → Type 0
+LayersKnown Settled n marks leaves fewest = Unit {0}
+LayersKnown Shallow n marks leaves fewest = (2 ^ n ≤ length fewest) × WiringKnown n marks leaves (leaves + 1) fewest
 
-pub layers-room : (choice : Choice) (n : ℕ) (marks fewest : List ℕ) → LayersKnown choice n marks fewest → (leaves : ℕ) → leaves < 2 ^ n
+pub layers-room : (choice : Choice) (n : ℕ) (marks : List ℕ) (leaves : ℕ) (fewest : List ℕ) → LayersKnown choice n marks leaves fewest → leaves < 2 ^ n
     → LayersRoom choice leaves fewest
-layers-room Settled n marks fewest known leaves leaves< = tt
-layers-room Shallow n marks fewest known leaves leaves< = omega (arith, known .0)
+layers-room Settled n marks leaves fewest known leaves< = tt
+layers-room Shallow n marks leaves fewest known leaves< = omega (arith, known .0)
 
 -- ---- a choice on the marks themselves
 
@@ -143,8 +138,8 @@ module _ (choice : Choice) (m n : ℕ) (pos : 0 < m) (f : ℕ → ℕ) where
 
 -- ---- the same choice on the marks in an array
 
-module _ (choice : Choice) (m n : ℕ) (pos : 0 < m) (f : ℕ → ℕ) (marks fewest : List ℕ) (holds : MarksIn m n f marks)
-    (known : LayersKnown choice n marks fewest) where
+module _ (choice : Choice) (m n : ℕ) (pos : 0 < m) (f : ℕ → ℕ) (marks fewest : List ℕ) (holds : MarksIn m n f marks) (leaves : ℕ)
+    (leaves< : leaves < 2 ^ n) (known : LayersKnown choice n marks leaves fewest) where
   abbrev own : ℕ → ℕ
   own = ownSplit choice n (marksOf m n f)
 
@@ -152,18 +147,19 @@ module _ (choice : Choice) (m n : ℕ) (pos : 0 < m) (f : ℕ → ℕ) (marks fe
   found = splitBy choice n marks fewest
 
   -- the part that is found there is the same as on the marks themselves
-  found-own : (g : ℕ) → g < 2 ^ n → markIn marks g ≡ 2 → found g ≡ own g
-  found-own = elim choice as (λ c. LayersKnown c n marks fewest
-      → (g : ℕ) → g < 2 ^ n → markIn marks g ≡ 2 → splitBy c n marks fewest g ≡ ownSplit c n (marksOf m n f) g) [
-        | Settled ↦ λ _ g g< two. split-agree n marks (marksOf m n f) g (λ a a<. holds .same a (omega arith))
-        | Shallow ↦ λ layers g g< two. shallow-agree n marks (marksOf m n f) (holds .same) fewest (layers .1) g g< two
+  found-own : (g : ℕ) → g < 2 ^ n → inside n g leaves ≡ true → markIn marks g ≡ 2 → found g ≡ own g
+  found-own = elim choice as (λ c. LayersKnown c n marks leaves fewest
+      → (g : ℕ) → g < 2 ^ n → inside n g leaves ≡ true → markIn marks g ≡ 2 → splitBy c n marks fewest g ≡ ownSplit c n (marksOf m n f) g) [
+        | Settled ↦ λ _ g g< g-in two. split-agree n marks (marksOf m n f) g (λ a a<. holds .same a (omega arith))
+        | Shallow ↦ λ layers g g< g-in two.
+            shallow-agree n marks (marksOf m n f) (holds .same) fewest leaves (layers .1) g g< (inside-part n g leaves g< g-in) two
       ] known
 
   -- it splits a group of mark 2 into two of mark 2
-  split-found : (g : ℕ) → g < 2 ^ n → markIn marks g ≡ 2 → size n g ≢ 1 → Split n (markIn marks) g (found g)
-  split-found g g< two several =
+  split-found : (g : ℕ) → g < 2 ^ n → inside n g leaves ≡ true → markIn marks g ≡ 2 → size n g ≢ 1 → Split n (markIn marks) g (found g)
+  split-found g g< g-in two several =
       let half = own-splits choice m n pos f g g g< (member-inside n g g (λ i i< is. is)) (sym (holds .same g g<) ∙ two) several in
-      subst⁻¹ (Split n (markIn marks) g) (found-own g g< two)
+      subst⁻¹ (Split n (markIn marks) g) (found-own g g< g-in two)
       (record {
         part = half .part;
         some = half .some;
@@ -173,22 +169,40 @@ module _ (choice : Choice) (m n : ℕ) (pos : 0 < m) (f : ℕ → ℕ) (marks fe
       })
 
   -- so a group of mark 2 can be wired from it, ..
-  pub choosable : (inputs : n ≤ mostInputs) (leaves : ℕ) → leaves < 2 ^ n → marked m n pos f leaves ≡ 2 → Choosable n marks found leaves
-  choosable inputs leaves leaves< two =
+  pub choosable : n ≤ mostInputs → marked m n pos f leaves ≡ 2 → Choosable n marks found leaves
+  choosable inputs two =
       record {
         inputs = inputs;
         room = holds .room;
         below = leaves<;
         two = holds .same leaves leaves< ∙ two;
-        splits = λ g g< g-in two-g several. split-found g g< two-g several;
+        splits = split-found;
       }
 
   -- .. and its wiring is the one from the marks themselves
-  wiring-found : (leaves : ℕ) → leaves < 2 ^ n → marked m n pos f leaves ≡ 2 → wiringBy n found n leaves ≡ ownWiring choice n (marksOf m n f) leaves
-  wiring-found leaves leaves< two =
-      sym (wiring-agree n (marked m n pos f) leaves own (own-splits choice m n pos f leaves) found
-      (λ g g< two-g. sym (found-own g g< (holds .same g g< ∙ two-g))) n leaves leaves<
-      (member-inside n leaves leaves (λ i i< is. is)) two)
+  wiring-found : marked m n pos f leaves ≡ 2 → wiringBy n found n leaves ≡ ownWiring choice n (marksOf m n f) leaves
+  unfolding wiringBy
+  wiring-found = same n leaves leaves< (member-inside n leaves leaves (λ i i< is. is))
+    where
+      mark : ℕ → ℕ
+      mark = marked m n pos f
+
+      splits : Splits n mark leaves own
+      splits = own-splits choice m n pos f leaves
+
+      same : (fuel g : ℕ) → g < 2 ^ n → inside n g leaves ≡ true → mark g ≡ 2 → wiringBy n found fuel g ≡ wiringBy n own fuel g
+      same zero g g< g-in two = refl
+      same (suc fuel) g g< g-in two = go (eqb (size n g) 1) refl λ several.
+          let half = parted n mark leaves own splits g g< g-in two several in
+          ap (λ (a : ℕ). rules.gate (wiringBy n found fuel a) (wiringBy n found fuel (g - a))) (found-own g g< g-in (holds .same g g< ∙ two))
+          ∙ ap₂ rules.gate
+          (same fuel _ (a-below n mark leaves own splits g g< g-in two several) (a-inside n mark leaves own splits g g< g-in two several) (half .two-a))
+          (same fuel _ (b-below n mark leaves own splits g g< g-in two several) (b-inside n mark leaves own splits g g< g-in two several) (half .two-b))
+        where
+          go : {w v : rules.Wiring} (b : Bool) → eqb (size n g) 1 ≡ b → (size n g ≢ 1 → w ≡ v)
+              → _≡_ {A = rules.Wiring} (elim b [ true ↦ rules.input (firstInput n g) | false ↦ w ]) (elim b [ true ↦ rules.input (firstInput n g) | false ↦ v ])
+          go true one rest = refl
+          go false several rest = rest (eqb-false _ _ several)
 
 -- ---- the net
 
@@ -199,7 +213,7 @@ leaves-two m n fit f two = leaves-marked m n (some-level m n fit) f (two-inputs 
 
 -- the wiring chosen for a table that has a tree
 module _ (choice : Choice) (m n : ℕ) (f : ℕ → ℕ) (fit : sizeFits m n ≡ true) (two : markIn (marksOf m n f) (wholeGroup n) ≡ 2) (marks fewest : List ℕ)
-    (holds : MarksIn m n f marks) (known : LayersKnown choice n marks fewest) (w : Wiring)
+    (holds : MarksIn m n f marks) (known : LayersKnown choice n marks (leavesOf m n f) fewest) (w : Wiring)
     (chosen : Chosen n (splitBy choice n marks fewest) (leavesOf m n f) w) where
   pos : 0 < m
   pos = some-level m n fit
@@ -207,7 +221,7 @@ module _ (choice : Choice) (m n : ℕ) (f : ℕ → ℕ) (fit : sizeFits m n ≡
   links-are : linksIn w ≡ linksOf n 0 (ownWiring choice n (marksOf m n f) (leavesOf m n f))
   links-are =
       chosen .links
-      ∙ ap (linksOf n 0) (wiring-found choice m n pos f marks fewest holds known (leavesOf m n f) (leaves-below m n pos f) (leaves-two m n fit f two))
+      ∙ ap (linksOf n 0) (wiring-found choice m n pos f marks fewest holds (leavesOf m n f) (leaves-below m n pos f) known (leaves-two m n fit f two))
 
   tree-of : WiringOf n (leavesOf m n f) (ownWiring choice n (marksOf m n f) (leavesOf m n f))
       × EachGate (Few m n f) (ownWiring choice n (marksOf m n f) (leavesOf m n f))

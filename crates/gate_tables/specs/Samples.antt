@@ -1,55 +1,42 @@
 -- One assignment for each value that a wire below the last carries, in the order of the values: an input's levels, or the first of
 -- each class.
 -- Assumes nothing.
-use Prim.Native.Nat.{ℕ, _-_, _*_, _/_, _%_, _^_, _<_}
-use mathlib.Core.Path.{_≡_, refl, sym, ap, _∙_, subst⁻¹}
-use mathlib.Core.Logic.{_≢_}
-use mathlib.Core.Bool.{Bool, true, false}
-use mathlib.Core.List.{List}
-use native.Mathlib.Nat.{zero-add, mul-div-cancel, mod-eq-of-lt, one-le-pow}
-use borrow.Author.Tests.{eq-eqb, eqb-true, eqb-false}
-use lib.ListN.{length, getD, take}
-use lib.Dec.{eqb}
+use Rattle.laws.specs.Prelude.{ℕ, _<_, _≤_, _-_, _^_, _*_, _%_, _/_, _≡_, _∙_, sym, ap, refl, subst⁻¹, _≢_, true, false, Bool, List, zero-add, one-le-pow}
+use Rattle.laws.specs.Prelude.{le-refl, mod-eq-of-lt, mul-div-cancel, eqb, length, getD, eq-eqb, eqb-true, ne-eqb, eqb-false}
 use Rattle.rules.specs.Sheets.Sheets.{level}
 use Rattle.rules.specs.Groups.Groups.{points, part, size, classes, multiplicity}
 use Rattle.rules.specs.Nets.Wirings.{firstInput}
 use Rattle.rules.specs.Nets.Filling.{carried, classNumber}
 use Rattle.laws.specs.Lists.Ranges.{map-range-length, map-range-at}
-use Rattle.radix.specs.Fronts.{Front}
 use Rattle.laws.specs.Lists.Places.{mem-getD}
 use Rattle.trees.specs.Groups.Members.{member-single, size-one}
 use Rattle.trees.specs.Groups.Levels.{level-below, level-part-in}
-use Rattle.trees.specs.Groups.Points.{points-are-parts}
+use Rattle.trees.specs.Groups.Points.{points-are-parts, points-rise}
 use Rattle.trees.specs.Leaves.Neighbours.{levelPoints, points-single}
-use Rattle.trees.specs.Groups.Classes.{classes-are-points, class-below, class-part, class-listed, listed-once}
+use Rattle.trees.specs.Groups.Classes.{Few, classes-are-points, class-below, class-part, class-listed, listed-once}
 use Rattle.trees.specs.Filling.Carried.{carried-several, carried-input}
+use Rattle.gate_tables.specs.ClassOrder.{Rises, classes-rising}
 
 -- ---- the samples
 
 unfoldable pub samples : ℕ → ℕ → (ℕ → ℕ) → ℕ → List ℕ
 samples m n f g = elim (eqb (size n g) 1) [ true ↦ points m n g | false ↦ classes m n f g ]
 
-level-points-length : (m w : ℕ) → length (levelPoints m w) ≡ m
+pub level-points-length : (m w : ℕ) → length (levelPoints m w) ≡ m
 level-points-length m w = map-range-length (λ l. l * w) 0 m
 
 module _ (m n : ℕ) (f : ℕ → ℕ) (g : ℕ) (g< : g < 2 ^ n) where
   -- a group of one member
-  samples-single : eqb (size n g) 1 ≡ true → samples m n f g ≡ levelPoints m (m ^ (n - 1 - firstInput n g))
+  pub samples-single : eqb (size n g) 1 ≡ true → samples m n f g ≡ levelPoints m (m ^ (n - 1 - firstInput n g))
   unfolding samples
   samples-single one =
       let first = size-one n g g< (eqb-true (size n g) 1 one) in
       rw (samples, one) (ap (points m n) (first .1) ∙ points-single m n (firstInput n g) (first .0))
 
-  pub single-front : (out : List ℕ) (i w : ℕ) → eqb (size n g) 1 ≡ true → i ≡ firstInput n g → w ≡ m ^ (n - 1 - i) → take m out ≡ levelPoints m w
-      → Front (samples m n f g) m out
-  single-front out i w one first weight is =
-      let same : samples m n f g ≡ levelPoints m w = samples-single one ∙ ap (levelPoints m) (sym (weight ∙ ap (λ (j : ℕ). m ^ (n - 1 - j)) first)) in
-      record { count = sym (ap length same ∙ level-points-length m w); is = is ∙ sym same }
-
   -- of several
-  pub several-front : (r : ℕ) (out : List ℕ) → eqb (size n g) 1 ≡ false → Front (classes m n f g) r out → Front (samples m n f g) r out
+  pub samples-several : size n g ≢ 1 → samples m n f g ≡ classes m n f g
   unfolding samples
-  several-front r out several front = rw (samples, several) front
+  samples-several several = rw (samples, ne-eqb (size n g) 1 several)
 
   -- each is an assignment of the group
   pub samples-own : 0 < m → (u : ℕ) → u < length (samples m n f g) → part m n g (getD (samples m n f g) u 0) ≡ getD (samples m n f g) u 0
@@ -61,6 +48,24 @@ module _ (m n : ℕ) (f : ℕ → ℕ) (g : ℕ) (g< : g < 2 ^ n) where
           u < length xs → part m n g (getD xs u 0) ≡ getD xs u 0
       go true u< = points-are-parts m n pos g _ (mem-getD (points m n g) u 0 u<) .0
       go false u< = points-are-parts m n pos g _ (classes-are-points m n pos f g g< u u<) .0
+
+  -- there are at most m
+  pub samples-few : Few m n f g → length (samples m n f g) ≤ m
+  unfolding samples multiplicity
+  samples-few few = go (eqb (size n g) 1) refl
+    where
+      go : (one : Bool) → eqb (size n g) 1 ≡ one → length (samples m n f g) ≤ m
+      go true is = rw (samples-single is, level-points-length m (m ^ (n - 1 - firstInput n g))) (le-refl m)
+      go false is = rw (samples, is) few
+
+  -- and they rise
+  pub samples-rise : 0 < m → Rises (samples m n f g)
+  unfolding samples
+  samples-rise pos = go (eqb (size n g) 1)
+    where
+      go : (one : Bool) → Rises (elim one as (λ _. List ℕ) [ true ↦ points m n g | false ↦ classes m n f g ])
+      go true = points-rise m n pos g
+      go false = classes-rising m n pos f g g<
 
 -- what samples are for a wire: all values that it carries are below their number, and if an index gives the wire's group sample u, the
 -- wire carries u

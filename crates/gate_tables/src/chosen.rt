@@ -6,15 +6,15 @@ ghost use lib.ListN.{length};
 ghost use Rattle.rules.specs.Limits.{sizeFits};
 ghost use Rattle.rules.specs.Groups.Groups.{wholeGroup};
 ghost use Rattle.rules.specs.Groups.Marks.{markIn, marksOf};
+ghost use Rattle.rules.specs.Nets.Leaves.{leavesOf};
 ghost use Rattle.rules.specs.Calls.Answers.{inkIn};
 ghost use Rattle.gate_tables.specs.MadeNet.{LayersKnown, MarksIn, MadeNet};
 use crate::fill;
 use nets::forms;
 use wirings::choice::Choice;
 use wirings::choose;
-use wirings::leaves::group;
 
-// Returns the net of a table that has a tree, so the whole group has mark 2.
+// Returns the net of a table that has a tree, so the whole group has mark 2. `leaves` is the group of its leaves.
 pub fn chosen_net(
     choice: Choice,
     m: usize,
@@ -22,12 +22,13 @@ pub fn chosen_net(
     cells: &[u8],
     marks: &[u8],
     fewest: &[u8],
+    leaves: usize,
 ) -> forms::Net
     requires { ⌜ (sizeFits m n ≡ true) × (m ^ n ≤ length (now cells)) × ((p : ℕ) → p < m ^ n → inkIn (now cells) p < m)
         × (MarksIn m n (inkIn (now cells)) (now marks)) × (markIn (marksOf m n (inkIn (now cells))) (wholeGroup n) ≡ 2)
-        × (LayersKnown choice n (now marks) (now fewest)) ⌝ }
+        × (leaves ≡ leavesOf m n (inkIn (now cells))) × (LayersKnown choice n (now marks) leaves (now fewest)) ⌝ }
     ensures { λ r. ⌜ MadeNet choice m n (inkIn (now (cells .entry))) r ⌝ }
 {
-    let wiring = choose::choose(choice, n, marks, fewest, group::leaves(m, n, cells));
+    let wiring = choose::choose(choice, n, marks, fewest, leaves);
     fill::fill(m, n, cells, wiring)
 }

@@ -1,36 +1,47 @@
 // A wiring filled by the class rule, in its own line order and with its own sides.
 ghost use mathlib.Core.Path.{_≡_};
-ghost use Prim.Native.Nat.{_+_, _*_, _≤_, _<_};
-ghost use lib.ListN.{length, take};
-ghost use Rattle.rules.specs.Limits.{mostInputs};
+ghost use Prim.Native.Nat.{_+_, _*_, _^_, _≤_, _<_};
+ghost use lib.ListN.{length};
+ghost use lib.Seq.{paste};
 ghost use Rattle.rules.specs.Nets.Filling.{inputGroups};
 ghost use Rattle.rules.specs.Calls.Answers.{inkIn};
-ghost use Rattle.trees.specs.Filling.DigitRule.{Parts};
 ghost use Rattle.trees.specs.Filling.Fillings.{Fillable};
 ghost use Rattle.nets.specs.Room.{mostGates, mostDigits};
 ghost use Rattle.wirings.specs.Links.{linksIn};
 ghost use Rattle.gate_tables.specs.Sized.{Sized};
-ghost use Rattle.gate_tables.specs.Growth.{Joined};
-ghost use Rattle.gate_tables.specs.Filled.{Filled};
-use crate::gate_digits;
+ghost use Rattle.gate_tables.specs.Growth.{JoinedBy};
+ghost use Rattle.gate_tables.specs.Filled.{Filled, FilledTo};
+use crate::gate_pass;
+use crate::samples;
 use nets::forms;
+use radix::limits;
 use radix::powers;
 use wirings::forms as links;
 
-// Returns the net with one more gate, which joins groups a and b. `left` and `right` are their references.
-fn join(
-    m: usize,
-    n: usize,
-    cells: &[u8],
-    a: usize,
-    b: usize,
-    last: bool,
-    left: u8,
-    right: u8,
-    net: forms::Net,
-) -> forms::Net
-    requires { ⌜ (Sized m n (now cells)) × (Parts m n (inkIn (now cells)) a b) × (net .levels ≡ m) × (net .gates < mostGates) × ((net .gates + 1) * (m * m) ≤ mostDigits) ⌝ }
-    ensures { λ r. ⌜ Joined m n (inkIn (now (cells .entry))) last a b left right net r ⌝ }
+// The most samples of all wires of a net, and the most digits of a gate.
+const MOST_SAMPLES: usize = forms::MOST_WIRES * limits::MOST_LEVELS;
+
+const MOST_TABLE: usize = limits::MOST_LEVELS * limits::MOST_LEVELS;
+
+// The most cells of a small table: for these, clearing a large work array takes longer than filling.
+const FEW_CELLS: usize = 256;
+
+// Writes the first `count` digits of `table` from `at` on.
+fn write_table(table: &[u8], count: usize, at: usize, digits: &mut [u8])
+    requires { ⌜ (count ≤ length (now table)) × (at + count ≤ length (now digits)) ⌝ }
+    ensures { λ _. ⌜ now (digits .exit) ≡ paste (now (digits .entry)) at (now (table .entry)) count ⌝ }
+{
+    let mut k: usize = 0;
+    while k < count {
+        digits[at + k] = table[k];
+        k += 1;
+    }
+}
+
+// Returns the net with one more gate: its references, and its digits at the front of `table`.
+fn join(m: usize, left: u8, right: u8, table: &[u8], net: forms::Net) -> forms::Net
+    requires { ⌜ (m * m ≤ length (now table)) × (net .gates < mostGates) × ((net .gates + 1) * (m * m) ≤ mostDigits) ⌝ }
+    ensures { λ r. ⌜ JoinedBy m left right (now (table .entry)) net r ⌝ }
 {
     let k = net.gates;
     let mut lefts = net.left;
@@ -38,7 +49,7 @@ fn join(
     let mut digits = net.digits;
     lefts[k] = left;
     rights[k] = right;
-    gate_digits::gate_digits(m, n, cells, a, b, last, k * (m * m), &mut digits);
+    write_table(table, m * m, k * (m * m), &mut digits);
     forms::Net {
         levels: net.levels,
         inputs: net.inputs,
@@ -49,28 +60,19 @@ fn join(
     }
 }
 
-// Writes the inputs' groups to the front of `groups`.
-pub fn input_groups(n: usize, groups: &mut [u16])
-    requires { ⌜ (n ≤ mostInputs) × (n ≤ length (now groups)) ⌝ }
-    ensures { λ _. ⌜ take n (now (groups .exit)) ≡ inputGroups n ⌝ }
-{
-    let mut i: usize = 0;
-    while i < n {
-        groups[i] = powers::power(2, i) as u16;
-        i += 1;
-    }
-}
-
-// Returns the net of a wiring: each gate's group is the union of its references' groups, and the last gate gives the ink.
-pub fn fill(m: usize, n: usize, cells: &[u8], wiring: links::Wiring) -> forms::Net
-    requires { ⌜ (Sized m n (now cells)) × (wiring .gates < n) × (Fillable m n (inkIn (now cells)) (inputGroups n) (linksIn wiring)) ⌝ }
-    ensures { λ r. ⌜ Filled m n (inkIn (now (cells .entry))) wiring r ⌝ }
+// Does what `fill_while_few` does. `ys` is a work array with a place for each cell.
+fn fill_gates(m: usize, n: usize, cells: &[u8], wiring: links::Wiring, ys: &mut [u16]) -> forms::Net
+    requires { ⌜ (Sized m n (now cells)) × (wiring .gates < n) × (m ^ n ≤ length (now ys))
+        × (Fillable m n (λ _. 0) (inputGroups n) (linksIn wiring)) ⌝ }
+    ensures { λ r. ⌜ FilledTo m n (inkIn (now (cells .entry))) wiring r ⌝ }
 {
     let lefts = wiring.left;
     let rights = wiring.right;
     let count = wiring.gates;
     let mut groups = [0u16; forms::MOST_WIRES];
-    input_groups(n, &mut groups);
+    let mut sizes = [0u8; forms::MOST_WIRES];
+    let mut stored = [0u16; MOST_SAMPLES];
+    samples::input_wires(m, n, &mut groups, &mut sizes, &mut stored);
     let mut net = forms::no_gates(m, n);
     let mut k: usize = 0;
     while k < count {
@@ -78,9 +80,74 @@ pub fn fill(m: usize, n: usize, cells: &[u8], wiring: links::Wiring) -> forms::N
         let right = rights[k];
         let a = groups[left as usize] as usize;
         let b = groups[right as usize] as usize;
-        net = join(m, n, cells, a, b, k + 1 == count, left, right, net);
+        let from_left = left as usize * limits::MOST_LEVELS;
+        let to_left = from_left + sizes[left as usize] as usize;
+        let from_right = right as usize * limits::MOST_LEVELS;
+        let to_right = from_right + sizes[right as usize] as usize;
+        let mut firsts = [0u16; limits::MOST_LEVELS + 1];
+        let mut table = [0u8; MOST_TABLE];
+        let classes = gate_pass::stored_classes(
+            m,
+            n,
+            cells,
+            a,
+            b,
+            k + 1 == count,
+            &stored,
+            from_left,
+            to_left,
+            from_right,
+            to_right,
+            ys,
+            &mut firsts,
+            &mut table,
+        );
+        if m < classes {
+            return net;
+        }
+        net = join(m, left, right, &table, net);
+        samples::put_samples(&firsts, classes, (n + k) * limits::MOST_LEVELS, &mut stored);
+        sizes[n + k] = classes as u8;
         groups[n + k] = (a + b) as u16;
         k += 1;
     }
     net
+}
+
+// Does what `fill_while_few` does, in a small table.
+fn fill_small(m: usize, n: usize, cells: &[u8], wiring: links::Wiring) -> forms::Net
+    requires { ⌜ (Sized m n (now cells)) × (wiring .gates < n) × (m ^ n ≤ 256) × (Fillable m n (λ _. 0) (inputGroups n) (linksIn wiring)) ⌝ }
+    ensures { λ r. ⌜ FilledTo m n (inkIn (now (cells .entry))) wiring r ⌝ }
+{
+    let mut ys = [0u16; FEW_CELLS];
+    fill_gates(m, n, cells, wiring, &mut ys)
+}
+
+// Does what `fill_while_few` does, in any table.
+fn fill_large(m: usize, n: usize, cells: &[u8], wiring: links::Wiring) -> forms::Net
+    requires { ⌜ (Sized m n (now cells)) × (wiring .gates < n) × (Fillable m n (λ _. 0) (inputGroups n) (linksIn wiring)) ⌝ }
+    ensures { λ r. ⌜ FilledTo m n (inkIn (now (cells .entry))) wiring r ⌝ }
+{
+    let mut ys = [0u16; limits::MOST_CELLS];
+    fill_gates(m, n, cells, wiring, &mut ys)
+}
+
+// Returns the net of a wiring, with the gates before the first whose group has more than m classes, or with all gates if none has. Each gate's group
+// is the union of its references' groups, and the last gate gives the ink.
+pub fn fill_while_few(m: usize, n: usize, cells: &[u8], wiring: links::Wiring) -> forms::Net
+    requires { ⌜ (Sized m n (now cells)) × (wiring .gates < n) × (Fillable m n (λ _. 0) (inputGroups n) (linksIn wiring)) ⌝ }
+    ensures { λ r. ⌜ FilledTo m n (inkIn (now (cells .entry))) wiring r ⌝ }
+{
+    if FEW_CELLS < powers::power(m, n) {
+        return fill_large(m, n, cells, wiring);
+    }
+    fill_small(m, n, cells, wiring)
+}
+
+// Returns the net of a wiring whose gates' groups have at most m classes.
+pub fn fill(m: usize, n: usize, cells: &[u8], wiring: links::Wiring) -> forms::Net
+    requires { ⌜ (Sized m n (now cells)) × (wiring .gates < n) × (Fillable m n (inkIn (now cells)) (inputGroups n) (linksIn wiring)) ⌝ }
+    ensures { λ r. ⌜ Filled m n (inkIn (now (cells .entry))) wiring r ⌝ }
+{
+    fill_while_few(m, n, cells, wiring)
 }

@@ -6,6 +6,7 @@ ghost use lib.ListN.{length};
 ghost use Rattle.rules.specs.Limits.{sizeFits};
 ghost use Rattle.rules.specs.Groups.Groups.{wholeGroup};
 ghost use Rattle.rules.specs.Groups.Marks.{markIn, marksOf};
+ghost use Rattle.rules.specs.Nets.Leaves.{leavesOf};
 ghost use Rattle.rules.specs.Calls.Answers.{inkIn};
 ghost use Rattle.gate_tables.specs.MadeNet.{MarksIn, MadeNet};
 use crate::settled;
@@ -14,13 +15,21 @@ use nets::forms;
 use wirings::choice::Choice;
 
 // Returns the net of a table that has a tree, so the whole group has mark 2.
-pub fn made_net(choice: Choice, m: usize, n: usize, cells: &[u8], marks: &[u8]) -> forms::Net
+pub fn made_net(
+    choice: Choice,
+    m: usize,
+    n: usize,
+    cells: &[u8],
+    marks: &[u8],
+    leaves: usize,
+) -> forms::Net
     requires { ⌜ (sizeFits m n ≡ true) × (m ^ n ≤ length (now cells)) × ((p : ℕ) → p < m ^ n → inkIn (now cells) p < m)
-        × (MarksIn m n (inkIn (now cells)) (now marks)) × (markIn (marksOf m n (inkIn (now cells))) (wholeGroup n) ≡ 2) ⌝ }
+        × (MarksIn m n (inkIn (now cells)) (now marks)) × (markIn (marksOf m n (inkIn (now cells))) (wholeGroup n) ≡ 2)
+        × (leaves ≡ leavesOf m n (inkIn (now cells))) ⌝ }
     ensures { λ r. ⌜ MadeNet choice m n (inkIn (now (cells .entry))) r ⌝ }
 {
     match choice {
-        Choice::Settled => settled::settled_net(m, n, cells, marks),
-        Choice::Shallow => shallow::shallow_net(m, n, cells, marks),
+        Choice::Settled => settled::settled_net(m, n, cells, marks, leaves),
+        Choice::Shallow => shallow::shallow_net(m, n, cells, marks, leaves),
     }
 }

@@ -1,49 +1,50 @@
-// One assignment for each value that the wire of a group carries, in the order of the values.
+// One assignment for each value that a wire carries, in the order of the values. All wires' samples are in one array: those of wire r start at r times
+// the most levels.
 ghost use mathlib.Core.Path.{_≡_};
-ghost use Prim.Native.Nat.{_*_, _^_, _≤_, _<_};
-ghost use lib.ListN.{length, take};
-ghost use Rattle.rules.specs.Groups.Groups.{classes};
-ghost use Rattle.rules.specs.Calls.Answers.{inkIn};
-ghost use Rattle.radix.specs.Fronts.{Front};
-ghost use Rattle.trees.specs.Groups.Classes.{Few};
-ghost use Rattle.trees.specs.Leaves.Neighbours.{levelPoints};
-ghost use Rattle.gate_tables.specs.Samples.{samples};
-ghost use Rattle.gate_tables.specs.Sized.{Sized};
-use classes::few;
+ghost use Prim.Native.Nat.{ℕ, _+_, _*_, _^_, _≤_, _<_};
+ghost use lib.ListN.{length, getD, take};
+ghost use Rattle.rules.specs.Limits.{mostCells, mostInputs, mostLevels};
+ghost use Rattle.rules.specs.Nets.Filling.{inputGroups};
+ghost use Rattle.gate_tables.specs.Store.{PutAt, WireSamples};
 use radix::limits;
-use radix::members;
 use radix::powers;
 
-// Writes the assignments of an input of weight w, one for each level, to the front of `out`.
-fn level_points(m: usize, w: usize, out: &mut [u16])
-    requires { ⌜ (m ≤ length (now out)) × (m * w < 65536) ⌝ }
-    ensures { λ _. ⌜ take m (now (out .exit)) ≡ levelPoints m w ⌝ }
+// Writes the assignments of an input of weight w, one for each level, from `at` on.
+fn level_points(m: usize, w: usize, at: usize, out: &mut [u16])
+    requires { ⌜ (at + m ≤ length (now out)) × (m * w < 65536) ⌝ }
+    ensures { λ _. ⌜ PutAt (λ l. l * w) at m (now (out .entry)) (now (out .exit)) ⌝ }
 {
     let mut l: usize = 0;
     while l < m {
-        out[l] = (l * w) as u16;
+        out[at + l] = (l * w) as u16;
         l += 1;
     }
 }
 
-// Writes the first of each class of group g, which has at most m, to the front of `out`, and returns how many there are.
-pub fn class_list(m: usize, n: usize, cells: &[u8], g: usize, out: &mut [u16]) -> usize
-    requires { ⌜ (Sized m n (now cells)) × (m ≤ length (now out)) × (g < 2 ^ n) × (Few m n (inkIn (now cells)) g) ⌝ }
-    ensures { λ r. ⌜ Front (classes m n (inkIn (now (cells .entry))) g) r (now (out .exit)) ⌝ }
+// Copies the first `count` of `from`, from `at` on.
+pub fn put_samples(from: &[u16], count: usize, at: usize, out: &mut [u16])
+    requires { ⌜ (count ≤ length (now from)) × (at + count ≤ length (now out)) ⌝ }
+    ensures { λ _. ⌜ PutAt (λ i. getD (now (from .entry)) i 0) at count (now (out .entry)) (now (out .exit)) ⌝ }
 {
-    few::few_firsts(m, n, cells, g, m, out)
+    let mut i: usize = 0;
+    while i < count {
+        out[at + i] = from[i];
+        i += 1;
+    }
 }
 
-// Writes the samples of group g to the front of `out`, an input's levels or the first of each class, and returns how many there are.
-pub fn samples(m: usize, n: usize, cells: &[u8], g: usize, out: &mut [u16]) -> usize
-    requires { ⌜ (Sized m n (now cells)) × (m ≤ length (now out)) × (0 < g) × (g < 2 ^ n) × (Few m n (inkIn (now cells)) g) ⌝ }
-    ensures { λ r. ⌜ Front (samples m n (inkIn (now (cells .entry))) g) r (now (out .exit)) ⌝ }
+// Writes the group of each input, the number of its samples, and these.
+pub fn input_wires(m: usize, n: usize, groups: &mut [u16], sizes: &mut [u8], out: &mut [u16])
+    requires { ⌜ (0 < m) × (m ≤ mostLevels) × (n ≤ mostInputs) × (m ^ n ≤ mostCells) × (n ≤ length (now groups)) × (n ≤ length (now sizes))
+        × (n * mostLevels ≤ length (now out)) ⌝ }
+    ensures { λ _. ⌜ (take n (now (groups .exit)) ≡ inputGroups n)
+        × ((f : ℕ → ℕ) → WireSamples m n f n (now (groups .exit)) (now (sizes .exit)) (now (out .exit))) ⌝ }
 {
-    if members::single(g) {
-        let i = members::first_input(n, g);
-        level_points(m, powers::power(m, n - 1 - i), out);
-        m
-    } else {
-        class_list(m, n, cells, g, out)
+    let mut i: usize = 0;
+    while i < n {
+        groups[i] = powers::power(2, i) as u16;
+        sizes[i] = m as u8;
+        level_points(m, powers::power(m, n - 1 - i), i * limits::MOST_LEVELS, out);
+        i += 1;
     }
 }

@@ -6,6 +6,7 @@ ghost use lib.ListN.{length};
 ghost use Rattle.rules.specs.Limits.{sizeFits};
 ghost use Rattle.rules.specs.Groups.Groups.{wholeGroup};
 ghost use Rattle.rules.specs.Groups.Marks.{markIn, marksOf};
+ghost use Rattle.rules.specs.Nets.Leaves.{leavesOf};
 ghost use Rattle.rules.specs.Calls.Answers.{inkIn};
 ghost use Rattle.wirings.specs.declared.choice.Choice.the-variants.{Shallow};
 ghost use Rattle.gate_tables.specs.MadeNet.{MarksIn, MadeNet};
@@ -16,12 +17,13 @@ use wirings::choice::Choice;
 use wirings::fewest_layers;
 
 // Returns the shallow net of a table that has a tree, so the whole group has mark 2.
-pub fn shallow_net(m: usize, n: usize, cells: &[u8], marks: &[u8]) -> forms::Net
+pub fn shallow_net(m: usize, n: usize, cells: &[u8], marks: &[u8], leaves: usize) -> forms::Net
     requires { ⌜ (sizeFits m n ≡ true) × (m ^ n ≤ length (now cells)) × ((p : ℕ) → p < m ^ n → inkIn (now cells) p < m)
-        × (MarksIn m n (inkIn (now cells)) (now marks)) × (markIn (marksOf m n (inkIn (now cells))) (wholeGroup n) ≡ 2) ⌝ }
+        × (MarksIn m n (inkIn (now cells)) (now marks)) × (markIn (marksOf m n (inkIn (now cells))) (wholeGroup n) ≡ 2)
+        × (leaves ≡ leavesOf m n (inkIn (now cells))) ⌝ }
     ensures { λ r. ⌜ MadeNet Shallow m n (inkIn (now (cells .entry))) r ⌝ }
 {
     let mut fewest = [0u8; own::MOST_GROUPS];
-    fewest_layers::fewest_layers(n, marks, &mut fewest);
-    chosen::chosen_net(Choice::Shallow, m, n, cells, marks, &fewest)
+    fewest_layers::fewest_layers(n, marks, leaves, &mut fewest);
+    chosen::chosen_net(Choice::Shallow, m, n, cells, marks, &fewest, leaves)
 }

@@ -1,11 +1,6 @@
 -- The glyph call: its answer, and the outcome for an accepted sheet.
 -- Assumes nothing.
-use Prim.Native.Nat.{ℕ, _*_, _≤_, _<_}
-use mathlib.Core.Path.{_≡_, sym, ap, _∙_}
-use mathlib.Core.Bool.{true, false}
-use mathlib.Core.List.{List}
-use native.Mathlib.Nat.{mul-le-mul}
-use lib.ListN.{length}
+use Rattle.laws.specs.Prelude.{ℕ, _<_, _≤_, _*_, _≡_, _∙_, sym, ap, true, false, List, mul-le-mul, length}
 use lib.IntN.{ℤ}
 use Rattle.rules.specs.Calls.Answers.{accepted, refused, written}
 use Rattle.rules.specs.Calls.TableWriting.{Written}
@@ -37,7 +32,8 @@ module _ (s : List ℕ) (h : Header) (net : Net) (taken : NetTaken s h net) (wid
   unfolding glyph newCell headerOf
   own-glyph = λ i. glyphBy (sym (taken .levels) i) (sym (taken .inputs) i) (gatesOf net) width height picture offsets
 
-  pub bad-picture : pictureFits (net .levels) width height picture ≡ false → record { answer = refused 24 0; output = out } ≡ glyphCall s width height picture offsets out
+  pub bad-picture : pictureFits (net .levels) width height picture ≡ false
+      → record { answer = refused 24 0; output = out } ≡ glyphCall s width height picture offsets out
   bad-picture e = sym (glyph-24 s width height picture offsets out (netIn s h net) (taken .reads) (own-picture ∙ e))
 
   module _ (good : pictureFits (net .levels) width height picture ≡ true) where
@@ -51,7 +47,8 @@ module _ (s : List ℕ) (h : Header) (net : Net) (taken : NetTaken s h net) (wid
         mul-le-mul (is .across .most) (is .along .most)
 
     module _ (near : offsetsFit (net .inputs) offsets ≡ true) where
-      pub output-short : length out < width * height → record { answer = refused 15 (width * height); output = out } ≡ glyphCall s width height picture offsets out
+      pub output-short : length out < width * height → record { answer = refused 15 (width * height); output = out } ≡ glyphCall s width height picture offsets
+          out
       output-short short = sym (glyph-15 s width height picture offsets out (netIn s h net) (taken .reads) (own-picture ∙ good) (own-offsets ∙ near) short)
 
       module _ (long : width * height ≤ length out) where

@@ -1,16 +1,9 @@
 -- The framed picture, row by row.
 -- Assumes nothing.
-use Prim.Native.Nat.{ℕ, suc, _+_, _-_, _*_, _≤_, _<_}
-use mathlib.Core.Path.{_≡_, refl, sym, ap, _∙_, subst⁻¹}
-use mathlib.Core.Logic.{_⊎_, inl, inr}
-use mathlib.Core.List.{List}
-use native.Mathlib.Nat.{suc-mul, mul-comm, mul-le-mul-right}
-use native.Mathlib.Decide.{decLe, decLt, ℕ-discrete}
-use native.Mathlib.Omega.{arith}
-use lib.ListN.{length, getD, take, drop, length-drop}
-use lib.Seq.{sets, length-sets, length-take-le, getD-take, getD-drop}
+use Rattle.laws.specs.Prelude.{ℕ, _<_, _≤_, _+_, _-_, suc, _*_, _≡_, _∙_, sym, ap, refl, subst⁻¹, _⊎_, inl, inr, List, mul-le-mul-right, suc-mul, mul-comm}
+use Rattle.laws.specs.Prelude.{decLt, ℕ-discrete, decLe, arith, length, getD, take, drop, length-drop, length-take-le, getD-take, getD-drop, sets}
+use Rattle.laws.specs.Prelude.{length-sets, lt-ltb, le-ltb}
 use lib.IntN.{ℤ, pos, negsuc, subℕ}
-use borrow.Author.Tests.{lt-ltb, le-ltb}
 use Rattle.rules.specs.Calls.Glyphs.{levelAt}
 use Rattle.laws.specs.Calls.Glyphs.{IsSide}
 use Rattle.laws.specs.Lists.Pastes.{sets-before, sets-behind, sets-there}
@@ -87,12 +80,15 @@ module _ (width height : ℕ) (wide : IsSide width) (high : IsSide height) (pict
         where
           -- with one more row, the level is the same in every other row
           rows : (x : ℤ) (r : ℕ) → (r ≡ y + 2 → ⊥) → Dec (2 ≤ r) → levelAt width y picture x (subℕ r 2) ≡ levelAt width (y + 1) picture x (subℕ r 2)
-          rows x r off (no low) = let above : r < 2 = omega arith in rw (place-out r above) (level-above width y picture x (1 - r) ∙ sym (level-above width (y + 1) picture x (1 - r)))
+          rows x r off (no low) = let above : r < 2 = omega arith in
+              rw (place-out r above) (level-above width y picture x (1 - r) ∙ sym (level-above width (y + 1) picture x (1 - r)))
           rows x r off (yes high) = rw (place-in r high) (go x (decLt (r - 2) y))
             where
               both : (x : ℕ) → r - 2 < y → Dec (x < width) → levelAt width y picture (pos x) (pos (r - 2)) ≡ levelAt width (y + 1) picture (pos x) (pos (r - 2))
-              both x earlier (yes inside) = level-in width y picture x (r - 2) inside earlier ∙ sym (level-in width (y + 1) picture x (r - 2) inside (omega arith))
-              both x earlier (no outside) = level-across width y picture x (pos (r - 2)) (omega arith) ∙ sym (level-across width (y + 1) picture x (pos (r - 2)) (omega arith))
+              both x earlier (yes inside) =
+                  level-in width y picture x (r - 2) inside earlier ∙ sym (level-in width (y + 1) picture x (r - 2) inside (omega arith))
+              both x earlier (no outside) =
+                  level-across width y picture x (pos (r - 2)) (omega arith) ∙ sym (level-across width (y + 1) picture x (pos (r - 2)) (omega arith))
 
               go : (x : ℤ) → Dec (r - 2 < y) → levelAt width y picture x (pos (r - 2)) ≡ levelAt width (y + 1) picture x (pos (r - 2))
               go (pos x) (yes earlier) = both x earlier (decLt x width)
@@ -122,7 +118,8 @@ module _ (width height : ℕ) (wide : IsSide width) (high : IsSide height) (pict
           columns c h (yes left) (no right) =
               let past : width ≤ c - 2 = omega arith in
               other c (y + 2) (inr (omega arith)) ∙ framed .level c (y + 2) h (omega (arith, high .most))
-              ∙ rw (place-in c left) (level-across width y picture (c - 2) (subℕ (y + 2) 2) past ∙ sym (level-across width (y + 1) picture (c - 2) (pos y) past))
+              ∙ rw (place-in c left) (level-across width y picture (c - 2) (subℕ (y + 2) 2) past
+              ∙ sym (level-across width (y + 1) picture (c - 2) (pos y) past))
 
           cell : (c r : ℕ) → c < span → r < span → Dec (r ≡ y + 2) → getD after (r * span + c) 0 ≡ levelAt width (y + 1) picture (subℕ c 2) (subℕ r 2)
           cell c r h k (yes e) =

@@ -1,12 +1,8 @@
 -- The new picture from the framed one: each cell is the net's value at the levels that its offsets lead to.
 -- Assumes nothing.
-use Prim.Native.Nat.{ℕ, zero, suc, _+_, _-_, _*_, _/_, _%_, _≤_, _<_}
-use mathlib.Core.Path.{_≡_, refl, sym, ap, ap₂, _∙_, subst}
-use mathlib.Core.List.{List, _++_, map}
-use native.Mathlib.Nat.{zero-add, add-assoc, mul-comm, div-add-mod', mod-lt, div-lt-iff-lt-mul}
-use native.Mathlib.Omega.{arith}
-use lib.ListN.{length, getD, drop, replicate, length-drop, length-replicate}
-use lib.Seq.{ext-getD, length-take-le, getD-take, getD-drop}
+use Rattle.laws.specs.Prelude.{ℕ, _<_, _≤_, _+_, _-_, suc, _*_, zero, _%_, _/_, _≡_, _∙_, sym, ap, refl, subst, ap₂, List, _++_, map, zero-add, mod-lt}
+use Rattle.laws.specs.Prelude.{div-lt-iff-lt-mul, div-add-mod', mul-comm, add-assoc, arith, length, getD, drop, replicate, length-drop, length-replicate}
+use Rattle.laws.specs.Prelude.{length-take-le, getD-take, ext-getD, getD-drop}
 use lib.IntN.{ℤ, pos, _+ℤ_}
 use Rattle.rules.specs.Lists.{range, concatMap}
 use Rattle.rules.specs.Calls.Answers.{written}
@@ -65,7 +61,8 @@ blank k h = record { room = rw length-replicate h; zeros = zeros-at k }
 pub blank-long : (k : ℕ) → length (replicate {A = ℕ} k 0) ≡ k
 blank-long k = length-replicate k 0
 
-concat-range-same : (f h : ℕ → List ℕ) (from count : ℕ) → ((i : ℕ) → from ≤ i → i < from + count → f i ≡ h i) → concatMap f (range from count) ≡ concatMap h (range from count)
+concat-range-same : (f h : ℕ → List ℕ) (from count : ℕ) → ((i : ℕ) → from ≤ i → i < from + count → f i ≡ h i)
+    → concatMap f (range from count) ≡ concatMap h (range from count)
 unfolding range concatMap
 concat-range-same f h from zero e = refl
 concat-range-same f h from (suc count) e =
@@ -108,20 +105,38 @@ module _ (net : Net) (width height : ℕ) (picture : List ℕ) (offsets : List �
       let row : q / span < span = div-lt-iff-lt-mul some .1 h in
       let column : q % span < span = mod-lt q some in
       subst (λ (p : ℕ). getD wires p 0 < net .levels) (div-add-mod' q span)
-      (rw (framed .level (q % span) (q / span) column row) (picture-level-below (net .levels) width height picture (ready .picture-is) (net-levels-pos net (ready .sound)) _ _))
+      (rw (framed .level (q % span) (q / span) column row) (picture-level-below (net .levels) width height picture (ready .picture-is)
+      (net-levels-pos net (ready .sound)) _ _))
 
   pub glyph-values-ready : ValuesReady net starts frameSize (placesOf width height) wires
   glyph-values-ready =
       record {
         sound = ready .sound;
         inputs-there = λ i low.
-            omega (arith, each i low, across-near (net .inputs) offsets (ready .offsets-are) i low, down-near (net .inputs) offsets (ready .offsets-are) i low, wide, high, ready .picture-is .along .some);
+            omega (
+              arith,
+              each i low,
+              across-near (net .inputs) offsets (ready .offsets-are) i low,
+              down-near (net .inputs) offsets (ready .offsets-are) i low,
+              wide,
+              high,
+              ready .picture-is .along .some,
+            );
         room =
             let small : placesOf width height ≤ (mostSide - 1) * span + mostSide = omega (arith, wide, high, ready .picture-is .along .some) in
-            columns-room net (ready .sound) frameSize (placesOf width height) ((mostSide - 1) * span + mostSide) wires small (omega (arith, long, framed .same));
+            columns-room net (ready .sound) frameSize (placesOf width height) ((mostSide - 1) * span + mostSide) wires small
+            (omega (arith, long, framed .same));
         levels = λ i p low h.
             levels (getD starts i 0 + p)
-            (omega (arith, each i low, across-near (net .inputs) offsets (ready .offsets-are) i low, down-near (net .inputs) offsets (ready .offsets-are) i low, wide, high, ready .picture-is .along .some));
+            (omega (
+              arith,
+              each i low,
+              across-near (net .inputs) offsets (ready .offsets-are) i low,
+              down-near (net .inputs) offsets (ready .offsets-are) i low,
+              wide,
+              high,
+              ready .picture-is .along .some,
+            ));
       }
 
   -- ---- the values, row by row
@@ -145,16 +160,19 @@ module _ (net : Net) (width height : ℕ) (picture : List ℕ) (offsets : List �
         ∙ ap (λ (q : ℕ). getD after q 0) (add-assoc start (y * span) x)
         ∙ done .values (y * span + x) (omega arith)
         ∙ ap (valueWith (net .levels) (net .inputs) (gatesOf net)) (reads x y h k)
-        ∙ sym (map-range-at (λ x. cellOf net width height picture offsets x y) 0 width x 0 h ∙ ap (λ (z : ℕ). cellOf net width height picture offsets z y) (zero-add x)))
+        ∙ sym (map-range-at (λ x. cellOf net width height picture offsets x y) 0 width x 0 h
+        ∙ ap (λ (z : ℕ). cellOf net width height picture offsets z y) (zero-add x)))
       where
         row-long : length (rowAt after start width y) ≡ width
         row-long = length-take-le width (drop (start + y * span) after) (rw length-drop (omega (arith, done .there)))
 
-    pub rows-are : (then : List ℕ) → then ≡ rowsFrom after start width height ++ drop (height * width) out → then ≡ written out (glyphOf net width height picture offsets)
+    pub rows-are : (then : List ℕ) → then ≡ rowsFrom after start width height ++ drop (height * width) out
+        → then ≡ written out (glyphOf net width height picture offsets)
     unfolding written
     rows-are then e =
         let rows : rowsFrom after start width height ≡ glyphOf net width height picture offsets =
-        concat-range-same (rowAt after start width) (λ y. map (λ x. cellOf net width height picture offsets x y) (range 0 width)) 0 height (λ y _ k. row y (omega arith)) in
+        concat-range-same (rowAt after start width) (λ y. map (λ x. cellOf net width height picture offsets x y) (range 0 width)) 0 height
+        (λ y _ k. row y (omega arith)) in
         let cells : length (glyphOf net width height picture offsets) ≡ height * width =
         concat-length (λ y. map (λ x. cellOf net width height picture offsets x y) (range 0 width)) width
         (λ y. map-range-length (λ x. cellOf net width height picture offsets x y) 0 width) (range 0 height)

@@ -1,21 +1,13 @@
 -- An offset plus the largest one, and where an input's levels begin in the framed picture.
 -- Assumes nothing.
-use Prim.Native.Nat.{ℕ, zero, suc, _+_, _-_, _*_, _^_, _≤_, _<_}
-use mathlib.Core.Path.{_≡_, refl, sym, ap, _∙_}
-use mathlib.Core.Bool.{Bool, true, false, cond, _&&_}
-use mathlib.Core.List.{List}
-use native.Mathlib.Decide.{decLe, ℕ-discrete}
-use native.Mathlib.Omega.{arith}
-use native.Mathlib.Numerals.{add-one}
-use lib.ListN.{length, getD, drop, set, length-set, drop-of-length-le}
-use lib.Seq.{drop-cons, getD-set-same, getD-set-other}
+use Rattle.laws.specs.Prelude.{ℕ, _<_, _≤_, _+_, _-_, _^_, suc, _*_, zero, _≡_, _∙_, sym, ap, refl, true, false, Bool, _&&_, cond, List, add-one}
+use Rattle.laws.specs.Prelude.{ℕ-discrete, decLe, arith, leb, length, getD, drop, set, length-set, drop-of-length-le, getD-set-same, getD-set-other}
+use Rattle.laws.specs.Prelude.{drop-cons, lt-ltb, le-ltb, le-leb, lt-leb}
 use lib.IntN.{ℤ, pos, negsuc, _+ℤ_, subℕ, natAbs}
 use lib.Signed.{mag}
-use lib.Dec.{leb}
 use mir.Syntax.{w8}
 use mir.Val.{SFits, ofZ, toZ}
 use mir.Facts.{toZ-ofZ}
-use borrow.Author.Tests.{le-leb, lt-leb, lt-ltb, le-ltb}
 use Rattle.rules.specs.Lists.{all}
 use Rattle.rules.specs.Calls.Glyphs.{mostSide, mostOffset, across, down}
 use Rattle.laws.specs.Calls.Glyphs.{AreOffsets}
@@ -100,7 +92,8 @@ module _ (z : ℤ) (fits : SFits w8 z) where
   pub reach-rest : (ofZ w8 z ≡ 254 → ⊥) → (ofZ w8 z ≡ 255 → ⊥) → (ofZ w8 z ≡ 0 → ⊥) → (ofZ w8 z ≡ 1 → ⊥) → (ofZ w8 z ≡ 2 → ⊥) → reach z ≡ 5
   reach-rest a b c d e = reach-far z (far z fits a b c d e)
     where
-      far : (z : ℤ) → SFits w8 z → (ofZ w8 z ≡ 254 → ⊥) → (ofZ w8 z ≡ 255 → ⊥) → (ofZ w8 z ≡ 0 → ⊥) → (ofZ w8 z ≡ 1 → ⊥) → (ofZ w8 z ≡ 2 → ⊥) → mostOffset < natAbs z
+      far : (z : ℤ) → SFits w8 z → (ofZ w8 z ≡ 254 → ⊥) → (ofZ w8 z ≡ 255 → ⊥) → (ofZ w8 z ≡ 0 → ⊥) → (ofZ w8 z ≡ 1 → ⊥) → (ofZ w8 z ≡ 2 → ⊥)
+          → mostOffset < natAbs z
       far (pos k) fits a b c d e = three k c d e
         where
           three : (k : ℕ) → (k ≡ 0 → ⊥) → (k ≡ 1 → ⊥) → (k ≡ 2 → ⊥) → 2 < k

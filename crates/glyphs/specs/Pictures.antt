@@ -1,15 +1,7 @@
 -- Whether a picture fits, test by test.
 -- Assumes nothing.
-use Prim.Native.Nat.{ℕ, _*_, _≤_, _<_}
-use mathlib.Core.Path.{_≡_, refl, sym, _∙_}
-use mathlib.Core.Bool.{Bool, true, false}
-use mathlib.Core.List.{List}
-use native.Mathlib.Nat.{mul-le-mul}
-use native.Mathlib.Decide.{decLt}
-use native.Mathlib.Omega.{arith}
-use lib.ListN.{length}
-use lib.Dec.{eqb, ltb}
-use borrow.Author.Tests.{lt-ltb, ltb-true, eq-eqb, ne-eqb}
+use Rattle.laws.specs.Prelude.{ℕ, _<_, _≤_, _*_, _≡_, _∙_, sym, refl, true, false, Bool, List, mul-le-mul, decLt, arith, eqb, ltb, length, eq-eqb, ne-eqb}
+use Rattle.laws.specs.Prelude.{lt-ltb, ltb-true}
 use Rattle.rules.specs.Lists.{all}
 use Rattle.rules.specs.Calls.Glyphs.{sideFits, pictureFits}
 use Rattle.laws.specs.Calls.Glyphs.{side-fits}

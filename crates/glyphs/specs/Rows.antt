@@ -1,13 +1,8 @@
 -- The rows of a picture, one span apart in a list, written one after the other.
 -- Assumes nothing.
-use Prim.Native.Nat.{ℕ, _+_, _-_, _*_, _≤_, _<_}
-use mathlib.Core.Path.{_≡_, sym, ap, ap₂, _∙_}
-use mathlib.Core.List.{List, [], _∷_, _++_, append-nil}
-use native.Mathlib.Nat.{zero-add, zero-mul, suc-mul, mul-le-mul-right}
-use native.Mathlib.Numerals.{add-one}
-use native.Mathlib.Omega.{arith}
-use lib.ListN.{length, take, drop, length-append, length-drop}
-use lib.Seq.{sets, sets-eq, take-at, drop-append-add, drop-drop, length-take-le}
+use Rattle.laws.specs.Prelude.{ℕ, _<_, _≤_, _+_, _-_, _*_, _≡_, _∙_, sym, ap, ap₂, List, [], _∷_, _++_, append-nil, zero-add, zero-mul, mul-le-mul-right}
+use Rattle.laws.specs.Prelude.{suc-mul, add-one, arith, length, take, drop, length-append, length-drop, length-take-le, take-at, sets, drop-drop, sets-eq}
+use Rattle.laws.specs.Prelude.{drop-append-add}
 use Rattle.rules.specs.Lists.{range, concatMap}
 use Rattle.laws.specs.Calls.Glyphs.{IsSide}
 use Rattle.laws.specs.Lists.Ranges.{range-suc}
@@ -56,7 +51,13 @@ module _ (wires : List ℕ) (start width height : ℕ) (before : List ℕ) (read
   pub rows-length : length out ≡ length before
   rows-length =
       let most : y * width ≤ height * width = mul-le-mul-right width (done .low) in
-      ap length (done .text) ∙ omega (arith, length-append (rowsFrom wires start width y) (drop (y * width) before), length-drop (y * width) before, done .count, ready .room)
+      ap length (done .text) ∙ omega (
+        arith,
+        length-append (rowsFrom wires start width y) (drop (y * width) before),
+        length-drop (y * width) before,
+        done .count,
+        ready .room,
+      )
 
   module _ (turn : y < height) where
     pub glyph-row-there : from + width ≤ length wires
@@ -98,10 +99,12 @@ module _ (wires : List ℕ) (start width height : ℕ) (before : List ℕ) (read
           written =
               let done-rows = rowsFrom wires start width y in
               let next : (y + 1) * width ≡ y * width + width = rw (add-one, suc-mul) in
-              let front : take at out ≡ done-rows = ap₂ (λ (k : ℕ) (l : List ℕ). take k l) (done .at-is) (done .text) ∙ take-at done-rows (drop (y * width) before) (y * width) (done .count) in
+              let front : take at out ≡ done-rows = ap₂ (λ (k : ℕ) (l : List ℕ). take k l) (done .at-is) (done .text)
+              ∙ take-at done-rows (drop (y * width) before) (y * width) (done .count) in
               let place : at + length text ≡ length done-rows + width = omega (arith, done .at-is, done .count, row-length) in
               let rest : drop (at + length text) out ≡ drop (y * width + width) before =
-              ap₂ (λ (k : ℕ) (l : List ℕ). drop k l) place (done .text) ∙ drop-append-add done-rows (drop (y * width) before) width ∙ drop-drop width (y * width) before in
+              ap₂ (λ (k : ℕ) (l : List ℕ). drop k l) place (done .text) ∙ drop-append-add done-rows (drop (y * width) before) width
+              ∙ drop-drop width (y * width) before in
               sets-eq text out at (omega (arith, row-fits, row-length))
               ∙ ap₂ (λ (p q : List ℕ). p ++ text ++ q) front rest
               ∙ rw (more-rows, next)

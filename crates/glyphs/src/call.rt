@@ -24,7 +24,8 @@ fn print_accepted(
     out: &mut [u8],
 ) -> Answer
     requires { ⌜ NetTaken (now sheet) header net ⌝ }
-    ensures { λ r. ⌜ writtenOf r (now (out .exit)) ≡ glyphCall (now (sheet .entry)) width height (now (picture .entry)) (now (offsets .entry)) (now (out .entry)) ⌝ }
+    ensures { λ r. ⌜ writtenOf r (now (out .exit)) ≡ glyphCall (now (sheet .entry)) width height (now (picture .entry)) (now (offsets .entry))
+        (now (out .entry)) ⌝ }
 {
     if !picture_fits(net.levels, width, height, picture) {
         return Answer::Refused {
@@ -59,7 +60,8 @@ pub fn glyph(
     offsets: &[i8],
     out: &mut [u8],
 ) -> Answer
-    ensures { λ r. ⌜ writtenOf r (now (out .exit)) ≡ glyphCall (now (sheet .entry)) width height (now (picture .entry)) (now (offsets .entry)) (now (out .entry)) ⌝ }
+    ensures { λ r. ⌜ writtenOf r (now (out .exit)) ≡ glyphCall (now (sheet .entry)) width height (now (picture .entry)) (now (offsets .entry))
+        (now (out .entry)) ⌝ }
 {
     let read = read_net(sheet);
     let outcome = read.outcome;

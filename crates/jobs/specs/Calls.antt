@@ -1,8 +1,6 @@
 -- The four calls on a job by value: the job that each returns, every byte of it, what that job represents, and the answer.
 -- Assumes nothing.
-use Prim.Native.Nat.{ℕ, _+_}
-use mathlib.Core.Path.{_≡_, sym, ap, _∙_}
-use mathlib.Core.List.{List}
+use Rattle.laws.specs.Prelude.{ℕ, _+_, _≡_, _∙_, sym, ap, List}
 use Rattle.rules.specs.Sheets.Sheets.{Table}
 use Rattle.rules.specs.Calls.Answers.{accepted, refused}
 use Rattle.rules.specs.Calls.OpenCells.{readFull}
@@ -72,7 +70,13 @@ module _ (job : Job) where
   stepped-done h =
       let e = step-done (jobOf job) h in
       record {
-        bytes = (λ i. record { lines = job .lines; cells = job .cells; marks = marks-same (job .lines) (job .cells) (job .marks) (job .passed) i; passed = job .passed })
+        bytes = (λ i. record {
+          lines = job .lines;
+          cells = job .cells;
+          marks = marks-same (job .lines) (job .cells) (job .marks) (job .passed) i;
+          passed =
+              job .passed;
+        })
             ∙ ap (λ (s : Stepped). after job (s .job)) (sym e);
         stands = sym (ap (λ (s : Stepped). s .job) e);
         outcome = sym (ap (λ (s : Stepped). s .answer) e);

@@ -1,11 +1,6 @@
 -- Finishing a job, by its parts: its outcomes, and what making from its table requires.
 -- Assumes nothing.
-use Prim.Native.Nat.{ℕ, _-_, _^_, _≤_, _<_}
-use mathlib.Core.Path.{_≡_, refl, sym, ap, _∙_}
-use mathlib.Core.List.{List, []}
-use native.Mathlib.Nat.{sub-zero}
-use native.Mathlib.Omega.{arith}
-use lib.ListN.{take}
+use Rattle.laws.specs.Prelude.{ℕ, _<_, _≤_, _-_, _^_, _≡_, _∙_, sym, ap, refl, List, [], sub-zero, arith, take}
 use Rattle.rules.specs.Limits.{levelsFit, sizeFits}
 use Rattle.rules.specs.Sheets.Sheets.{Table}
 use Rattle.rules.specs.Calls.Answers as answers

@@ -1,11 +1,7 @@
 -- What a job by value represents. Every value of the struct represents a job. Its lines are read like a table sheet's first lines, up to the space
 -- after the last name; if they are refused, the job has no inputs. Its inks and marks are at the front of their arrays.
 -- Assumes nothing.
-use Prim.Native.Nat.{ℕ, _^_, _≤_}
-use mathlib.Core.Path.{_≡_, sym}
-use mathlib.Core.List.{List}
-use lib.ListN.{take}
-use lib.Pow.{pow-mono}
+use Rattle.laws.specs.Prelude.{ℕ, _≤_, _^_, _≡_, sym, List, take, pow-mono}
 use Rattle.rules.specs.Limits.{mostInputs}
 use Rattle.rules.specs.Text.{space}
 use Rattle.rules.specs.Sheets.Fields.{read, turnedBack}

@@ -1,12 +1,8 @@
 -- The bytes of a newly opened job: its first lines, its inks and its marks at the front of their arrays, and zeros after them. They represent the job
 -- that is opened.
 -- Assumes nothing.
-use Prim.Native.Nat.{ℕ, suc, _+_, _-_, _*_, _^_, _≤_}
-use mathlib.Core.Path.{_≡_, refl, sym, ap, _∙_}
-use mathlib.Core.List.{List, [], _∷_, _++_, map, append-assoc}
-use native.Mathlib.Omega.{arith}
-use lib.ListN.{length, take, drop, replicate, length-append, length-replicate, replicate-append-replicate}
-use lib.Seq.{take-at}
+use Rattle.laws.specs.Prelude.{ℕ, _≤_, _+_, _-_, _^_, suc, _*_, _≡_, _∙_, sym, ap, refl, List, [], _∷_, _++_, map, append-assoc, arith, length, take, drop}
+use Rattle.laws.specs.Prelude.{length-append, replicate, length-replicate, replicate-append-replicate, take-at}
 use Rattle.rules.specs.Lists.{range}
 use Rattle.rules.specs.Limits.{mostCells}
 use Rattle.rules.specs.Text.{space, newline, text, decimal}

@@ -1,8 +1,6 @@
 -- "jobs got by opening and stepping": a job by value that came from `open` and then calls of `step` and `mark` represents the job after these moves.
 -- Assumes nothing.
-use Prim.Native.Nat.{ℕ}
-use mathlib.Core.Path.{_≡_, refl, sym, ap, _∙_}
-use mathlib.Core.List.{List, [], _∷_, _++_}
+use Rattle.laws.specs.Prelude.{ℕ, _≡_, _∙_, sym, ap, refl, List, [], _∷_, _++_}
 use Rattle.rules.specs.Calls.Jobs.{openJob, stepJob, askJob, Move, step, ask, moved, afterMoves}
 use Rattle.rules.specs.Calls.Jobs as rules
 use Rattle.jobs.specs.Forms.{jobOf}

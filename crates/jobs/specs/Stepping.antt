@@ -1,13 +1,7 @@
 -- A step to the next group, in the bytes of a job.
 -- Assumes nothing.
-use Prim.Native.Nat.{ℕ, zero, suc, _+_, _-_, _^_, _≤_, _<_}
-use mathlib.Core.Path.{_≡_, refl, sym, ap, ap₂, _∙_}
-use mathlib.Core.List.{List, [], _∷_, _++_}
-use native.Mathlib.Nat.{sub-zero}
-use native.Mathlib.Omega.{arith}
-use lib.ListN.{length, take, drop, set, length-set, take-append-drop}
-use lib.Pow.{pow-mono}
-use lib.Seq.{drop-set-lt, length-take-le}
+use Rattle.laws.specs.Prelude.{ℕ, _<_, _≤_, _+_, _-_, _^_, suc, zero, _≡_, _∙_, sym, ap, refl, ap₂, List, [], _∷_, _++_, sub-zero, arith, length, take}
+use Rattle.laws.specs.Prelude.{drop, set, length-set, take-append-drop, length-take-le, drop-set-lt, pow-mono}
 use Rattle.rules.specs.Sheets.Sheets.{Table}
 use Rattle.rules.specs.Groups.Groups.{wholeGroup}
 use Rattle.rules.specs.Groups.Marks.{markOf}
@@ -81,12 +75,18 @@ module _ (lines cells marks : List ℕ) (passed : ℕ) where
   module _ (on : passed < groupsOf job) (mark : ℕ) (is : mark ≡ nextMark job) where
     pub marks-further : set marks (passed + 1) mark ≡ written marks (further job .marks)
     unfolding jobIn further groupsOf
-    marks-further = sym (written-set (2 ^ tableFrom lines cells .header .inputs) marks (passed + 1) mark (omega arith)) ∙ ap (λ (v : ℕ). written marks (set (job .marks) (passed + 1) v)) is
+    marks-further = sym (written-set (2 ^ tableFrom lines cells .header .inputs) marks (passed + 1) mark (omega arith))
+        ∙ ap (λ (v : ℕ). written marks (set (job .marks) (passed + 1) v)) is
 
     pub job-further : jobIn lines cells (set marks (passed + 1) mark) (passed + 1) ≡ further job
     unfolding jobIn further
     job-further =
-        (λ i. record { table = tableFrom lines cells; marks = take-set (2 ^ tableFrom lines cells .header .inputs) marks (passed + 1) mark i; passed = passed + 1 })
+        (λ i. record {
+          table = tableFrom lines cells;
+          marks = take-set (2 ^ tableFrom lines cells .header .inputs) marks (passed + 1) mark i;
+          passed =
+              passed + 1;
+        })
         ∙ (λ i. record { table = tableFrom lines cells; marks = set (job .marks) (passed + 1) (is i); passed = passed + 1 })
 
 -- the next group, as the code finds it

@@ -91,7 +91,8 @@ impl Job {
 
     // Returns refusal 9, 10, 27 or 22, or what making returns.
     pub fn finish(self, cells: &mut [u8], marks: &mut [u8], out: &mut [u8]) -> Finished
-        ensures { λ r. ⌜ FinishDone self (now (cells .entry)) (now (marks .entry)) (now (out .entry)) r (now (cells .exit)) (now (marks .exit)) (now (out .exit)) ⌝ }
+        ensures { λ r. ⌜ FinishDone self (now (cells .entry)) (now (marks .entry)) (now (out .entry)) r (now (cells .exit)) (now (marks .exit))
+            (now (out .exit)) ⌝ }
     {
         let lines = self.lines;
         let own = self.cells;

@@ -1,13 +1,7 @@
 -- The set of the gates that changed, gate by gate.
 -- Assumes nothing.
-use Prim.Native.Nat.{ℕ, suc, _+_, _-_, _*_, _^_, _<_}
-use mathlib.Core.Path.{_≡_, refl, sym, ap, ap₂, _∙_}
-use mathlib.Core.Bool.{Bool, true, false, cond, not}
-use mathlib.Core.List.{List, [], _∷_, _++_, map, map-map}
-use native.Mathlib.Nat.{add-zero, zero-add}
-use native.Mathlib.Numerals.{add-one}
-use native.Mathlib.Omega.{arith}
-use lib.ListN.{getD, take, drop}
+use Rattle.laws.specs.Prelude.{ℕ, _<_, _+_, _-_, _^_, suc, _*_, _≡_, _∙_, sym, ap, refl, ap₂, true, false, Bool, not, cond, List, [], _∷_, _++_, map}
+use Rattle.laws.specs.Prelude.{map-map, zero-add, add-zero, add-one, arith, getD, take, drop}
 use Rattle.rules.specs.Lists.{range, those, same, total}
 use Rattle.rules.specs.Sheets.Sheets.{Gate}
 use Rattle.rules.specs.Calls.Keeping.{linkOf, gateLinks, tableAt, tableDiffers, changedGates}
@@ -64,7 +58,8 @@ module _ (old new : Net) where
   unfolding those total
   one-more k =
       let differs = tableDiffers (gatesOf old) (gatesOf new) in
-      let own : range 1 (k + 1) ≡ range 1 k ++ (suc k ∷ []) = ap (range 1) (add-one k) ∙ range-suc 1 k ∙ ap (λ (i : ℕ). range 1 k ++ (i ∷ [])) (let z : 1 + k ≡ suc k = omega arith in z) in
+      let own : range 1 (k + 1) ≡ range 1 k ++ (suc k ∷ []) =
+      ap (range 1) (add-one k) ∙ range-suc 1 k ∙ ap (λ (i : ℕ). range 1 k ++ (i ∷ [])) (let z : 1 + k ≡ suc k = omega arith in z) in
       ap (powers differs) own
       ∙ ap (λ (xs : List ℕ). total (map (λ i. 2 ^ i) xs)) (those-append differs (range 1 k) (suc k ∷ []))
       ∙ total-parts (λ i. 2 ^ i) (those differs (range 1 k)) (those differs (suc k ∷ []))

@@ -1,13 +1,7 @@
 -- Keeping a wiring for two sheets: a refusal, then a full table.
 -- Assumes nothing.
-use Prim.Native.Nat.{ℕ, _-_, _^_, _≤_, _<_}
-use mathlib.Core.Path.{_≡_, refl, sym, ap, _∙_}
-use mathlib.Core.Bool.{Bool, true, false}
-use mathlib.Core.List.{List}
-use native.Mathlib.Nat.{lt-of-not-le}
-use native.Mathlib.Decide.{decLe}
-use lib.ListN.{length, getD, take}
-use borrow.Author.Tests.{lt-ltb, le-ltb}
+use Rattle.laws.specs.Prelude.{ℕ, _<_, _≤_, _-_, _^_, _≡_, _∙_, sym, ap, refl, true, false, Bool, List, lt-of-not-le, decLe, length, getD, take, lt-ltb}
+use Rattle.laws.specs.Prelude.{le-ltb}
 use Rattle.rules.specs.Sheets.Sheets as sheets
 use Rattle.rules.specs.Sheets.Sheets.{Table}
 use Rattle.rules.specs.Sheets.Printed.{printedNet}
@@ -47,10 +41,22 @@ module _ (net : sheets.Net) (t : Table) (cells output : List ℕ) (same : sameHe
           keep-23 net t cells output same whole long takes (lt-of-not-le crowded) ∙ sym (rw (takes, lt-ltb _ _ (lt-of-not-le crowded), filledInto))
       go false takes (yes roomy) (no short) =
           keep-15 net t cells output same whole long takes roomy (lt-of-not-le short)
-          ∙ sym (rw (takes, le-ltb _ _ roomy, filledInto, sheetKept, sheet-15 (printedNet (keptNet net t)) (written cells (t .inks)) (written cells (t .inks)) output (lt-of-not-le short)))
+          ∙ sym (rw (
+            takes,
+            le-ltb _ _ roomy,
+            filledInto,
+            sheetKept,
+            sheet-15 (printedNet (keptNet net t)) (written cells (t .inks)) (written cells (t .inks)) output (lt-of-not-le short),
+          ))
       go false takes (yes roomy) (yes fits) =
           keep-written net t cells output same whole long takes roomy fits
-          ∙ sym (rw (takes, le-ltb _ _ roomy, filledInto, sheetKept, sheet-written (printedNet (keptNet net t)) (written cells (t .inks)) (written cells (t .inks)) output fits))
+          ∙ sym (rw (
+            takes,
+            le-ltb _ _ roomy,
+            filledInto,
+            sheetKept,
+            sheet-written (printedNet (keptNet net t)) (written cells (t .inks)) (written cells (t .inks)) output fits,
+          ))
 
   past-27 : keptInto net t cells output ≡ fullInto net t cells output
   past-27 = go (decLe (length (t .inks)) (length cells))

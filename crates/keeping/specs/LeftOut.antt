@@ -1,11 +1,6 @@
 -- The inputs that matter to a table and that no gate of a net uses. In the search, the remaining inputs decide whether there is one.
 -- Assumes nothing.
-use Prim.Native.Nat.{ℕ, _-_}
-use mathlib.Core.Path.{_≡_, ap, _∙_}
-use mathlib.Core.Bool.{Bool, true, false, not, _&&_, and-false}
-use mathlib.Core.List.{List, map}
-use native.Mathlib.Nat.{sub-zero}
-use lib.Dec.{eqb}
+use Rattle.laws.specs.Prelude.{ℕ, _-_, _≡_, _∙_, ap, true, false, Bool, _&&_, not, and-false, List, map, sub-zero, eqb}
 use Rattle.rules.specs.Lists.{range, any}
 use Rattle.rules.specs.Sheets.Sheets.{Gate, usedBy}
 use Rattle.rules.specs.Nets.Leaves.{matters}

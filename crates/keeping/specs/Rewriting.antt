@@ -1,23 +1,16 @@
 -- A net's wiring for a full table: the cells buffer, then the gates' groups and the sheet.
 -- Assumes nothing.
-use Prim.Native.Nat.{ℕ, suc, _+_, _^_, _≤_, _<_}
-use mathlib.Core.Path.{_≡_, sym, ap, ap₂, _∙_, subst⁻¹, subst₂}
-use mathlib.Core.Bool.{true, false}
-use mathlib.Core.List.{List}
-use native.Mathlib.Omega.{arith}
-use lib.ListN.{length}
-use borrow.Author.Tests.{lt-ltb, le-ltb}
+use Rattle.laws.specs.Prelude.{ℕ, _<_, _≤_, _+_, _^_, suc, _≡_, _∙_, sym, ap, ap₂, subst⁻¹, subst₂, true, false, List, arith, length, lt-ltb, le-ltb}
 use Rattle.rules.specs.Sheets.Sheets as sheets
 use Rattle.rules.specs.Sheets.Sheets.{Table}
 use Rattle.rules.specs.Sheets.Printed.{printedNet}
-use Rattle.rules.specs.Nets.Filling.{inputGroups, filled}
+use Rattle.rules.specs.Nets.Filling.{filled}
 use Rattle.rules.specs.Sheets.SheetRules.{IsNet}
 use Rattle.rules.specs.Calls.Answers.{inkIn, neither, written}
 use Rattle.rules.specs.Calls.Settling.{writtenSheet}
 use Rattle.rules.specs.Calls.Keeping.{gateLinks, keptGates, keptNet, roomyGates, roomyBefore, leavesOut, changedGates, turnedAway}
-use Rattle.trees.specs.Filling.Fillings.{Fillable}
 use Rattle.trees.specs.Keeping.KeptLinks.{same-net}
-use Rattle.trees.specs.Keeping.KeptWirings.{UsesMattering, GatesFew, leaves-out-none, all-roomy, kept-fillable, kept-fills}
+use Rattle.trees.specs.Keeping.KeptWirings.{UsesMattering, GatesFew, leaves-out-none, all-roomy, kept-fills}
 use Rattle.nets.specs.declared.forms.Header.{Header}
 use Rattle.nets.specs.declared.forms.Net.{Net}
 use Rattle.nets.specs.Forms.{headerOf, gatesOf, tableIn, netIn}
@@ -82,12 +75,18 @@ module _ (s : List ℕ) (h : Header) (net : Net) (inks : List ℕ) (taken : NetT
         (is : roomy ≡ roomyGates (net .levels) (net .inputs) (inkIn inks) (gatesOf net)) where
       -- refusal 23 at a gate
       pub first-told : roomy < net .gates
-          → record { answer = turnedAway neither 23 (roomy + 1); cells = cells-then; output = output } ≡ filledInto (netIn s h net) (tableIn s h inks) cells output
+          → record { answer = turnedAway neither 23 (roomy + 1); cells = cells-then; output = output } ≡ filledInto (netIn s h net) (tableIn s h inks) cells
+          output
       unfolding filledInto
       first-told some =
           let place : roomy + 1 ≡ suc (roomyBefore (netIn s h net) (tableIn s h inks)) = omega (arith, is, roomy-is) in
           (λ i. record { answer = turnedAway neither 23 (place i); cells = copied i; output = output })
-          ∙ sym (rw (sym out-is ∙ takes, lt-ltb (roomyBefore (netIn s h net) (tableIn s h inks)) (length (gatesOf net)) (omega (arith, is, roomy-is, gates-length net)), filledInto))
+          ∙ sym (rw (
+            sym out-is ∙ takes,
+            lt-ltb (roomyBefore (netIn s h net) (tableIn s h inks)) (length (gatesOf net))
+                (omega (arith, is, roomy-is, gates-length net)),
+            filledInto,
+          ))
 
       -- refusal 15, or the sheet
       pub sheet-told : net .gates ≤ roomy → (r : Kept) (after : List ℕ)
@@ -97,7 +96,12 @@ module _ (s : List ℕ) (h : Header) (net : Net) (inks : List ℕ) (taken : NetT
       sheet-told all r after told =
           told cells-then
           ∙ ap (λ (own : List ℕ). sheetKept (netIn s h net) (tableIn s h inks) own output) copied
-          ∙ sym (rw (sym out-is ∙ takes, le-ltb (roomyBefore (netIn s h net) (tableIn s h inks)) (length (gatesOf net)) (omega (arith, is, roomy-is, gates-length net)), filledInto))
+          ∙ sym (rw (
+            sym out-is ∙ takes,
+            le-ltb (roomyBefore (netIn s h net) (tableIn s h inks)) (length (gatesOf net))
+                (omega (arith, is, roomy-is, gates-length net)),
+            filledInto,
+          ))
 
   -- if no input that matters is left out, and every gate has few classes
 
@@ -121,12 +125,6 @@ module _ (s : List ℕ) (h : Header) (net : Net) (inks : List ℕ) (taken : NetT
     few : GatesFew (net .levels) (net .inputs) f (gatesOf net)
     few = all-roomy (net .levels) (net .inputs) pos f (gatesOf net) (own .gates) .0 (omega (arith, gates-length net))
 
-    -- the wiring can be filled, ..
-    pub keeping-wiring-fills : (w : Wiring) → linksIn w ≡ gateLinks (gatesOf net) → Fillable (net .levels) (net .inputs) f (inputGroups (net .inputs)) (linksIn w)
-    keeping-wiring-fills w links =
-        subst⁻¹ (Fillable (net .levels) (net .inputs) f (inputGroups (net .inputs))) links
-        (kept-fillable (net .levels) (net .inputs) pos f (gatesOf net) (own .gates) few)
-
     below : (p : ℕ) → p < net .levels ^ net .inputs → f p < net .levels
     below =
         subst₂ (λ (m n : ℕ). (p : ℕ) → p < m ^ n → f p < m) (sym (taken .levels)) (sym (taken .inputs)) (given-below s h inks given)
@@ -136,11 +134,12 @@ module _ (s : List ℕ) (h : Header) (net : Net) (inks : List ℕ) (taken : NetT
       unfolding keptGates
       new-gates = done .gates ∙ ap (λ ls. filled (net .levels) (net .inputs) f ls) links
 
-      -- .. and filled, it is the net of its gates, which keep the rules
+      -- filled, the wiring is the net of its gates, which keep the rules
       pub new-net : NetOf (h .levels) (h .inputs) (keptGates (net .levels) (net .inputs) f (gatesOf net)) new
       new-net =
           let fills = kept-fills (net .levels) (net .inputs) pos f (gatesOf net) (own .gates) few uses below in
-          let is-net = same-net (net .levels) (net .inputs) (gatesOf net) (keptGates (net .levels) (net .inputs) f (gatesOf net)) (fills .wiring) (own .gates) (fills .tables) in
+          let is-net = same-net (net .levels) (net .inputs) (gatesOf net) (keptGates (net .levels) (net .inputs) f (gatesOf net)) (fills .wiring) (own .gates)
+          (fills .tables) in
           record {
             levels = done .levels ∙ taken .levels;
             inputs = done .inputs ∙ taken .inputs;

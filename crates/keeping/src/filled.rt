@@ -5,10 +5,13 @@ ghost use Rattle.accepted.specs.Taken.{NetTaken, Given};
 ghost use Rattle.keeping.specs.KeepAnswers.{keptOf, filledInto, fullInto};
 ghost use Rattle.keeping.specs.Rewriting.{KeepingReady};
 use crate::answer::Kept;
+use crate::answer::with_changed;
+use crate::changed::changed_gates;
 use crate::left_out::leaves_out;
-use crate::rewrite::rewrite;
-use crate::too_many::roomy_gates;
+use crate::wiring::wiring_of;
 use answers::named::Named;
+use gate_tables::fill::fill_while_few;
+use net_sheets::printer::output::write_sheet;
 use net_sheets::text::put::copy;
 use nets::forms::Header;
 use nets::forms::Net;
@@ -34,7 +37,8 @@ fn keep_filled(
             place: 0,
         };
     }
-    let roomy = roomy_gates(net, inks);
+    let filled = fill_while_few(net.levels, net.inputs, inks, wiring_of(net));
+    let roomy = filled.gates;
     if roomy < net.gates {
         return Kept::Refused {
             named: Named::Neither,
@@ -42,7 +46,8 @@ fn keep_filled(
             place: roomy + 1,
         };
     }
-    rewrite(s, header, net, inks, out)
+    let changed = changed_gates(net, filled);
+    with_changed(write_sheet(s, header, filled, out), changed)
 }
 
 // Keeps a wiring for a full table, or refuses with 13.

@@ -4,6 +4,4 @@ pub mod changed;
 pub mod filled;
 pub mod keep;
 pub mod left_out;
-pub mod rewrite;
-pub mod too_many;
 pub mod wiring;

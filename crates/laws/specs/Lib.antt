@@ -2,3 +2,4 @@ pub mod Calls
 pub mod Lists
 pub mod Nets
 pub mod Numbers
+pub mod Prelude

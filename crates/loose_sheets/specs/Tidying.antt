@@ -1,13 +1,7 @@
 -- Tidying: a loose sheet that was read, its cells and its table sheet.
 -- Assumes nothing.
-use Prim.Native.Nat.{ℕ, suc, _-_, _^_, _≤_, _<_}
-use mathlib.Core.Path.{_≡_, refl, sym, ap, _∙_, subst}
-use mathlib.Core.Bool.{Bool, true, false, false≢true}
-use mathlib.Core.List.{List}
-use native.Mathlib.Nat.{sub-zero}
-use native.Mathlib.Omega.{arith}
-use lib.ListN.{length, take}
-use lib.Seq.{length-take-le}
+use Rattle.laws.specs.Prelude.{ℕ, _<_, _≤_, _-_, _^_, suc, _≡_, _∙_, sym, ap, refl, subst, true, false, Bool, false≢true, List, sub-zero, arith, length}
+use Rattle.laws.specs.Prelude.{take, length-take-le}
 use Rattle.rules.specs.Limits.{mostCells}
 use Rattle.rules.specs.Sheets.Sheets.{Table}
 use Rattle.rules.specs.Sheets.Printed.{printedTable}
@@ -114,7 +108,12 @@ module _ (s : List ℕ) (h : Header) (inks : List ℕ) (taken : LooseTaken s h i
         names = names-inside s h (taken .header);
         someLevels = omega (arith, size .levels-least);
         levels = size .levels-most;
-        digits = λ k l. omega (arith, size .levels-most, below-at (suc (h .levels)) (take (count - 0) inks) (subst (Below (suc (h .levels))) (sym front) (taken .below)) k l);
+        digits = λ k l. omega (
+          arith,
+          size .levels-most,
+          below-at (suc (h .levels)) (take (count - 0) inks)
+              (subst (Below (suc (h .levels))) (sym front) (taken .below)) k l,
+        );
       }
 
   pub front-itself : (strict : Bool) → Itself strict s h (inksIn inks h) → Itself strict s h (take (count - 0) inks)

@@ -1,10 +1,6 @@
 -- Four more marks in the buffer, by the number of the first of them.
 -- Assumes nothing.
-use Prim.Native.Nat.{ℕ, _+_, _*_, _/_, _<_}
-use mathlib.Core.Path.{_≡_, sym, ap, _∙_}
-use mathlib.Core.List.{List}
-use native.Mathlib.Omega.{arith}
-use lib.ListN.{length, take, set}
+use Rattle.laws.specs.Prelude.{ℕ, _<_, _+_, _*_, _/_, _≡_, _∙_, sym, ap, List, arith, length, take, set}
 use Rattle.rules.specs.Groups.Marks.{storedMarks}
 use Rattle.rules.specs.Calls.Answers.{written}
 use Rattle.laws.specs.Nets.StoredMarks.{fourAt, stored-set}

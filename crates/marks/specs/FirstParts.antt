@@ -1,13 +1,7 @@
 -- The parts of a group that hold its first-listed input, in the order of the code: that input and a part of the others, by rising number.
 -- Assumes nothing.
-use Prim.Native.Nat.{ℕ, _+_, _-_, _^_, _≤_, _<_}
-use mathlib.Core.Path.{_≡_, refl}
-use mathlib.Core.Bool.{Bool, true, false, _&&_, and-eq-true-iff, and-true}
-use mathlib.Core.List.{List}
-use native.Mathlib.Omega.{arith}
+use Rattle.laws.specs.Prelude.{ℕ, _<_, _≤_, _+_, _-_, _^_, _≡_, refl, true, false, Bool, _&&_, and-eq-true-iff, and-true, List, arith, eqb, pow-pos}
 use lib.Bits.{and-self}
-use lib.Dec.{eqb}
-use lib.Pow.{pow-pos}
 use Rattle.rules.specs.Groups.Groups.{member}
 use Rattle.rules.specs.Groups.Marks.{inside, markIn, partsAt}
 use Rattle.rules.specs.Nets.Wirings.{firstInput}
@@ -86,7 +80,8 @@ module _ (g rest : ℕ) (some : 0 < g) (is-rest : (n : ℕ) → g < 2 ^ n → re
         omega (arith, after .least (u - (g - rest)) (omega arith) (is .1))
 
     -- the part of g that is tested
-    pub here : (part : ℕ) → part < rest → PartOf part rest → (0 < (g - rest) + part) × ((g - rest) + part < g) × (test n ((g - rest) + part) ≡ look ((g - rest) + part))
+    pub here : (part : ℕ) → part < rest → PartOf part rest → (0 < (g - rest) + part) × ((g - rest) + part < g)
+        × (test n ((g - rest) + part) ≡ look ((g - rest) + part))
     here part more is-part =
         let at = part-at n g< part more is-part in
         (at .0, at .1, looked .at-part n ((g - rest) + part) (at .2) (at .3))

@@ -1,12 +1,7 @@
 -- The rule for a group's mark, as the code applies it: first whether there are few classes, then whether the group splits.
 -- Assumes nothing.
-use Prim.Native.Nat.{ℕ, _-_, _^_, _≤_, _<_}
-use mathlib.Core.Path.{_≡_, ap, _∙_}
-use mathlib.Core.Bool.{true, false, _||_, or-true}
-use mathlib.Core.List.{List}
-use native.Mathlib.Omega.{arith}
-use lib.Dec.{eqb}
-use borrow.Author.Tests.{le-leb, lt-leb, eq-eqb, ne-eqb, lt-ltb, le-ltb}
+use Rattle.laws.specs.Prelude.{ℕ, _<_, _≤_, _-_, _^_, _≡_, _∙_, ap, true, false, _||_, or-true, List, arith, eqb, eq-eqb, ne-eqb, lt-ltb, le-ltb, le-leb}
+use Rattle.laws.specs.Prelude.{lt-leb}
 use Rattle.rules.specs.Lists.{range, any}
 use Rattle.rules.specs.Groups.Groups.{size, multiplicity}
 use Rattle.rules.specs.Groups.Marks.{partsAt, markOf}

@@ -1,12 +1,6 @@
 -- What the marking call's answer and buffer represent, and its outcomes.
 -- Assumes nothing.
-use Prim.Native.Nat.{ℕ, _≤_, _<_}
-use mathlib.Core.Path.{_≡_}
-use mathlib.Core.Bool.{true, false}
-use mathlib.Core.List.{List}
-use lib.Dec.{ltb}
-use lib.ListN.{length}
-use borrow.Author.Tests.{lt-ltb, le-ltb}
+use Rattle.laws.specs.Prelude.{ℕ, _<_, _≤_, _≡_, true, false, List, ltb, length, lt-ltb, le-ltb}
 use Rattle.rules.specs.Groups.Groups.{wholeGroup}
 use Rattle.rules.specs.Groups.Marks.{markIn, marksOf, marksLength, storedMarks}
 use Rattle.rules.specs.Calls.Marking.{Marked, markingCall}

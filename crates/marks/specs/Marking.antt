@@ -1,15 +1,10 @@
 -- All marks: what marking returns, its own marks and the buffer afterwards, and the step from the marks below a group to the group's mark.
 -- Assumes nothing.
-use Prim.Native.Nat.{ℕ, zero, suc, _+_, _-_, _^_, _≤_, _<_}
-use mathlib.Core.Path.{_≡_, refl, sym, ap, ap₂, _∙_, subst, subst⁻¹}
-use mathlib.Core.List.{List, [], _∷_, _++_}
-use native.Mathlib.Numerals.{add-one}
-use native.Mathlib.Omega.{arith}
-use lib.ListN.{length, getD, take, set, length-set}
-use lib.Pow.{pow-pos}
-use lib.Seq.{getD-take, take-suc-set, getD-set-same, set-getD}
-use Rattle.rules.specs.Groups.Groups.{wholeGroup}
+use Rattle.laws.specs.Prelude.{ℕ, _<_, _≤_, _+_, _-_, _^_, suc, zero, _≡_, _∙_, sym, ap, refl, subst, ap₂, subst⁻¹, not, List, [], _∷_, _++_, add-one, arith}
+use Rattle.laws.specs.Prelude.{length, getD, take, set, length-set, getD-set-same, length-take-le, getD-take, ext-getD, take-suc-set, set-getD, pow-pos}
+use Rattle.rules.specs.Groups.Groups.{member, wholeGroup}
 use Rattle.rules.specs.Groups.Marks.{markIn, markOf, marksBelow, marksOf, storedMarks}
+use Rattle.rules.specs.Nets.Leaves.{matters}
 use Rattle.rules.specs.Calls.Answers.{written}
 use Rattle.trees.specs.Groups.MarkRule.{marked, marks-length, mark-rule, mark-agree, mark-small}
 use Rattle.laws.specs.Nets.StoredMarks.{InTwoBits}
@@ -18,6 +13,11 @@ use Rattle.laws.specs.Nets.StoredMarks.{InTwoBits}
 pub record Marking (m n : ℕ) (f : ℕ → ℕ) (mark : ℕ) (marks : List ℕ) : Type 0 where
   pub answer : mark ≡ markIn (marksOf m n f) (wholeGroup n)
   pub front : take (2 ^ n) marks ≡ marksOf m n f
+
+-- the group of exactly the inputs that do not matter
+pub record IdleGroup (m n : ℕ) (f : ℕ → ℕ) (idle : ℕ) : Type 0 where
+  pub below : idle < 2 ^ n
+  pub is : (i : ℕ) → i < n → member i idle ≡ not (matters m n f i)
 
 -- and the marks are stored in a buffer
 pub record MarkedInto (m n : ℕ) (f : ℕ → ℕ) (before : List ℕ) (mark : ℕ) (marks after : List ℕ) : Type 0 where
@@ -29,7 +29,8 @@ pub record Stored (m n : ℕ) (f : ℕ → ℕ) (before : List ℕ) (mark : ℕ)
   pub answer : mark ≡ markIn (marksOf m n f) (wholeGroup n)
   pub buffer : after ≡ written before (storedMarks (marksOf m n f))
 
-pub marked-stored : {m n : ℕ} {f : ℕ → ℕ} {before : List ℕ} {mark : ℕ} {marks after : List ℕ} → MarkedInto m n f before mark marks after → Stored m n f before mark after
+pub marked-stored : {m n : ℕ} {f : ℕ → ℕ} {before : List ℕ} {mark : ℕ} {marks after : List ℕ} → MarkedInto m n f before mark marks after
+    → Stored m n f before mark after
 marked-stored did = record { answer = did .own .answer; buffer = did .buffer }
 
 -- what storing them requires and gives
@@ -108,11 +109,32 @@ all-below m n pos f (suc g) low =
     let all = marksOf m n f in
     subst (λ (k : ℕ). Below m n f all k all) (add-one g)
     (subst (Below m n f all (g + 1)) (set-getD all g 0)
-    (below-next m n f all (omega (arith, marks-length m n pos f)) g all (all-below m n pos f g (omega arith)) low (marked m n pos f g) (mark-rule m n pos f g low)))
+    (below-next m n f all (omega (arith, marks-length m n pos f)) g all (all-below m n pos f g (omega arith)) low (marked m n pos f g)
+    (mark-rule m n pos f g low)))
 
 -- so a mark that is written is the group's mark
-pub below-marked : (m n : ℕ) (pos : 0 < m) (f : ℕ → ℕ) (before : List ℕ) (g : ℕ) (marks : List ℕ) → Below m n f before g marks → (a : ℕ) → a < g → markIn marks a ≡ marked m n pos f a
+pub below-marked : (m n : ℕ) (pos : 0 < m) (f : ℕ → ℕ) (before : List ℕ) (g : ℕ) (marks : List ℕ) → Below m n f before g marks → (a : ℕ) → a < g
+    → markIn marks a ≡ marked m n pos f a
 below-marked m n pos f before g marks b a a< =
     sym (getD-take g marks a 0 a<)
     ∙ ap (λ (l : List ℕ). getD l a 0) (b .front ∙ sym (all-below m n pos f g (b .low) .front))
     ∙ getD-take g (marksOf m n f) a 0 a<
+
+-- and conversely
+pub marked-below : (m n : ℕ) (pos : 0 < m) (f : ℕ → ℕ) (before : List ℕ) (g : ℕ) (marks : List ℕ) → g ≤ 2 ^ n → 2 ^ n ≤ length before
+    → length marks ≡ length before
+    → ((a : ℕ) → a < g → markIn marks a ≡ marked m n pos f a) → Below m n f before g marks
+marked-below m n pos f before g marks low room same is =
+    record {
+      low = low;
+      same = same;
+      front = ext-getD 0 (take g marks) (take g all) (long ∙ sym (length-take-le g all (omega (arith, marks-length m n pos f))))
+          (λ a a<. let a<g : a < g = omega (arith, long) in getD-take g marks a 0 a<g ∙ is a a<g ∙ sym (getD-take g all a 0 a<g))
+          ∙ all-below m n pos f g low .front;
+    }
+  where
+    all : List ℕ
+    all = marksOf m n f
+
+    long : length (take g marks) ≡ g
+    long = length-take-le g marks (omega arith)

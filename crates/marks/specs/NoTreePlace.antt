@@ -1,14 +1,8 @@
 -- The place of refusal 16 as the code searches for it: size by size, and within each size by rising number.
 -- Assumes nothing.
-use Prim.Native.Nat.{ℕ, _+_, _-_, _^_, _≤_, _<_}
-use mathlib.Core.Path.{_≡_, sym, ap, _∙_}
-use mathlib.Core.Bool.{Bool, true, false, _&&_}
+use Rattle.laws.specs.Prelude.{ℕ, _<_, _≤_, _+_, _-_, _^_, _≡_, _∙_, sym, ap, true, false, Bool, _&&_, List, List·Memᴰ, sub-zero, arith, eqb, ltb, lt-ltb}
+use Rattle.laws.specs.Prelude.{le-ltb}
 use mathlib.Core.Option.{Option, none, some}
-use mathlib.Core.List.{List, List·Memᴰ}
-use native.Mathlib.Nat.{sub-zero}
-use native.Mathlib.Omega.{arith}
-use lib.Dec.{eqb, ltb}
-use borrow.Author.Tests.{lt-ltb, le-ltb}
 use Rattle.rules.specs.Lists.{range, those, concatMap, find}
 use Rattle.rules.specs.Groups.Groups.{size}
 use Rattle.rules.specs.Groups.Marks.{markIn, bySize, noTreePlace}

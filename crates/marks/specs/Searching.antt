@@ -1,13 +1,7 @@
 -- The loop of a search for A over plain numbers: it continues from the first-listed input and the part `part` of the others.
 -- Assumes nothing.
-use Prim.Native.Nat.{ℕ, _+_, _-_, _^_, _≤_, _<_}
-use mathlib.Core.Path.{_≡_, refl, sym, ap, _∙_}
-use mathlib.Core.Bool.{Bool, true, false}
-use native.Mathlib.Nat.{add-zero}
-use native.Mathlib.Decide.{ℕ-discrete}
-use native.Mathlib.Omega.{arith}
+use Rattle.laws.specs.Prelude.{ℕ, _<_, _≤_, _+_, _-_, _^_, _≡_, _∙_, sym, ap, refl, true, false, Bool, add-zero, ℕ-discrete, arith, pow-pos}
 use lib.Bits.{and-self}
-use lib.Pow.{pow-pos}
 use Rattle.rules.specs.Lists.{range, firstPlace}
 use Rattle.rules.specs.Nets.Wirings.{firstInput}
 use Rattle.radix.specs.Parts.{PartOf, Next, without-first}

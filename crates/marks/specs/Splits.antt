@@ -1,13 +1,8 @@
 -- The search for document 01's A among the parts of a group that hold its first-listed input.
 -- Assumes nothing.
-use Prim.Native.Nat.{ℕ, suc, _+_, _-_, _^_, _≤_, _<_}
-use mathlib.Core.Path.{_≡_, refl, sym, ap, ap₂, _∙_}
-use mathlib.Core.Bool.{Bool, true, false, not, _&&_, _||_, and-eq-true-iff, false≢true}
-use mathlib.Core.List.{List}
-use native.Mathlib.Omega.{arith}
+use Rattle.laws.specs.Prelude.{ℕ, _<_, _≤_, _+_, _-_, _^_, suc, _≡_, _∙_, sym, ap, refl, ap₂, true, false, Bool, _&&_, not, and-eq-true-iff, _||_}
+use Rattle.laws.specs.Prelude.{false≢true, List, arith, eqb, ltb, leb·suc-suc, eq-eqb, eqb-true}
 use lib.Bits.{and-le-r}
-use lib.Dec.{eqb, ltb, leb·suc-suc}
-use borrow.Author.Tests.{eqb-true, eq-eqb}
 use Rattle.rules.specs.Lists.{range, any, firstPlace}
 use Rattle.rules.specs.Groups.Groups.{member}
 use Rattle.rules.specs.Groups.Marks.{inside, markIn, partsAt}

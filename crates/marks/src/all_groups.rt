@@ -4,10 +4,9 @@ ghost use lib.ListN.{length};
 ghost use Rattle.rules.specs.Groups.Marks.{marksLength};
 ghost use Rattle.rules.specs.Calls.Answers.{inkIn};
 ghost use Rattle.cells.specs.Full.{FullCells};
-ghost use Rattle.marks.specs.Marking.{Marking, MarkedInto};
+ghost use Rattle.marks.specs.Marking.{Marking, MarkedInto, IdleGroup};
 ghost use Rattle.marks.specs.Fast.Below.{fewInputs, fewCells, Lent};
 use crate::fast::below;
-use crate::group_mark;
 use crate::own;
 use crate::packing;
 use radix::limits;
@@ -20,6 +19,12 @@ pub const FEW_GROUPS: usize = 1 << FEW_INPUTS;
 
 const FEW_CELLS: usize = 1024;
 
+// The whole group's mark, and the group of the inputs that do not matter.
+pub struct AllMarked {
+    pub mark: u8,
+    pub idle: usize,
+}
+
 // Writes every group's mark to `marks` and returns the whole group's mark. The other arrays are for work. The whole group of a full table has as many
 // classes as there are inks, so at most m.
 fn mark_with(
@@ -31,14 +36,15 @@ fn mark_with(
     xs: &mut [u16],
     ys: &mut [u16],
     marks: &mut [u8],
-) -> u8
-    requires { ⌜ (FullCells m n (now cells)) × (2 ^ n ≤ length (now marks)) × (Lent m n (length (now counts)) (length (now kept)) (length (now xs)) (length (now ys))) ⌝ }
-    ensures { λ r. ⌜ Marking m n (inkIn (now (cells .entry))) r (now (marks .exit)) ⌝ }
+) -> AllMarked
+    requires { ⌜ (FullCells m n (now cells)) × (2 ^ n ≤ length (now marks))
+        × (Lent m n (length (now counts)) (length (now kept)) (length (now xs)) (length (now ys))) ⌝ }
+    ensures { λ r. ⌜ (Marking m n (inkIn (now (cells .entry))) (r .mark) (now (marks .exit))) × (IdleGroup m n (inkIn (now (cells .entry))) (r .idle)) ⌝ }
 {
     let mut weights = [0u16; limits::MOST_INPUTS];
     let mut firsts = [0u16; limits::MOST_LEVELS + 1];
     powers::weights(m, n, &mut weights);
-    below::mark_below(
+    let idle = below::mark_below(
         m,
         n,
         cells,
@@ -51,15 +57,15 @@ fn mark_with(
         marks,
     );
     let whole = powers::power(2, n) - 1;
-    let mark = group_mark::few_mark(marks, whole);
+    let mark = below::mark_without(marks, whole, idle);
     own::put_mark(marks, whole, mark);
-    mark
+    AllMarked { mark, idle }
 }
 
 // Does the same with arrays for a small table: clearing large ones takes longer than marking it.
-fn mark_small(m: usize, n: usize, cells: &[u8], marks: &mut [u8]) -> u8
+fn mark_small(m: usize, n: usize, cells: &[u8], marks: &mut [u8]) -> AllMarked
     requires { ⌜ (FullCells m n (now cells)) × (2 ^ n ≤ length (now marks)) × (n ≤ fewInputs) × (m ^ n ≤ fewCells) ⌝ }
-    ensures { λ r. ⌜ Marking m n (inkIn (now (cells .entry))) r (now (marks .exit)) ⌝ }
+    ensures { λ r. ⌜ (Marking m n (inkIn (now (cells .entry))) (r .mark) (now (marks .exit))) × (IdleGroup m n (inkIn (now (cells .entry))) (r .idle)) ⌝ }
 {
     let mut counts = [0u8; FEW_GROUPS];
     let mut kept = [0u16; FEW_GROUPS * limits::MOST_LEVELS];
@@ -69,9 +75,9 @@ fn mark_small(m: usize, n: usize, cells: &[u8], marks: &mut [u8]) -> u8
 }
 
 // Does the same with arrays for any table.
-fn mark_large(m: usize, n: usize, cells: &[u8], marks: &mut [u8]) -> u8
+fn mark_large(m: usize, n: usize, cells: &[u8], marks: &mut [u8]) -> AllMarked
     requires { ⌜ (FullCells m n (now cells)) × (2 ^ n ≤ length (now marks)) ⌝ }
-    ensures { λ r. ⌜ Marking m n (inkIn (now (cells .entry))) r (now (marks .exit)) ⌝ }
+    ensures { λ r. ⌜ (Marking m n (inkIn (now (cells .entry))) (r .mark) (now (marks .exit))) × (IdleGroup m n (inkIn (now (cells .entry))) (r .idle)) ⌝ }
 {
     let mut counts = [0u8; own::MOST_GROUPS];
     let mut kept = [0u16; limits::MOST_KEPT];
@@ -81,9 +87,9 @@ fn mark_large(m: usize, n: usize, cells: &[u8], marks: &mut [u8]) -> u8
 }
 
 // Writes every group's mark to `marks` and returns the whole group's mark.
-pub fn mark_all(m: usize, n: usize, cells: &[u8], marks: &mut [u8]) -> u8
+pub fn mark_all(m: usize, n: usize, cells: &[u8], marks: &mut [u8]) -> AllMarked
     requires { ⌜ (FullCells m n (now cells)) × (2 ^ n ≤ length (now marks)) ⌝ }
-    ensures { λ r. ⌜ Marking m n (inkIn (now (cells .entry))) r (now (marks .exit)) ⌝ }
+    ensures { λ r. ⌜ (Marking m n (inkIn (now (cells .entry))) (r .mark) (now (marks .exit))) × (IdleGroup m n (inkIn (now (cells .entry))) (r .idle)) ⌝ }
 {
     if FEW_INPUTS < n {
         return mark_large(m, n, cells, marks);
@@ -95,11 +101,18 @@ pub fn mark_all(m: usize, n: usize, cells: &[u8], marks: &mut [u8]) -> u8
 }
 
 // Does the same, and packs the marks into the caller's buffer.
-pub fn mark_and_store(m: usize, n: usize, cells: &[u8], marks: &mut [u8], buffer: &mut [u8]) -> u8
+pub fn mark_and_store(
+    m: usize,
+    n: usize,
+    cells: &[u8],
+    marks: &mut [u8],
+    buffer: &mut [u8],
+) -> AllMarked
     requires { ⌜ (FullCells m n (now cells)) × (2 ^ n ≤ length (now marks)) × (marksLength n ≤ length (now buffer)) ⌝ }
-    ensures { λ r. ⌜ MarkedInto m n (inkIn (now (cells .entry))) (now (buffer .entry)) r (now (marks .exit)) (now (buffer .exit)) ⌝ }
+    ensures { λ r. ⌜ (MarkedInto m n (inkIn (now (cells .entry))) (now (buffer .entry)) (r .mark) (now (marks .exit)) (now (buffer .exit)))
+        × (IdleGroup m n (inkIn (now (cells .entry))) (r .idle)) ⌝ }
 {
-    let mark = mark_all(m, n, cells, marks);
+    let marked = mark_all(m, n, cells, marks);
     packing::store(n, marks, buffer);
-    mark
+    marked
 }

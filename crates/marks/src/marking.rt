@@ -22,7 +22,8 @@ fn store_small(m: usize, n: usize, cells: &[u8], buffer: &mut [u8]) -> u8
     ensures { λ r. ⌜ Stored m n (inkIn (now (cells .entry))) (now (buffer .entry)) r (now (buffer .exit)) ⌝ }
 {
     let mut marks = [0u8; all_groups::FEW_GROUPS];
-    all_groups::mark_and_store(m, n, cells, &mut marks, buffer)
+    let marked = all_groups::mark_and_store(m, n, cells, &mut marks, buffer);
+    marked.mark
 }
 
 // Does the same with a marks array for any number of groups.
@@ -31,7 +32,8 @@ fn store_large(m: usize, n: usize, cells: &[u8], buffer: &mut [u8]) -> u8
     ensures { λ r. ⌜ Stored m n (inkIn (now (cells .entry))) (now (buffer .entry)) r (now (buffer .exit)) ⌝ }
 {
     let mut marks = [0u8; own::MOST_GROUPS];
-    all_groups::mark_and_store(m, n, cells, &mut marks, buffer)
+    let marked = all_groups::mark_and_store(m, n, cells, &mut marks, buffer);
+    marked.mark
 }
 
 // Returns refusal 14, or stores all marks.

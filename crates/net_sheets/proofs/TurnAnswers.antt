@@ -1,15 +1,7 @@
 -- What a lister gives at a place, and so at turn k if k turns lead there.
 -- Assumes nothing.
-use Prim.Native.Nat.{ℕ, _+_, _-_, _≤_, _<_}
-use mathlib.Core.Path.{_≡_, ap, _∙_}
-use mathlib.Core.List.{List, []}
-use native.Mathlib.Decide.{decLt}
-use native.Mathlib.Omega.{arith}
-use native.Mathlib.Nat.{zero-add}
-use lib.ListN.{length, take, drop}
-use lib.Dec.{leb}
+use Rattle.laws.specs.Prelude.{ℕ, _<_, _≤_, _+_, _-_, _≡_, _∙_, ap, List, [], zero-add, decLt, arith, leb, length, take, drop, lt-ltb, le-ltb, le-leb, lt-leb}
 use denote.Ref.{RefT, now}
-use borrow.Author.Tests.{lt-ltb, le-ltb, lt-leb, le-leb}
 use Rattle.rules.specs.Calls.Lister.{lineLength, Turn, gateAt, noneLeft}
 use Rattle.readback.specs.Nets.GateLines.{partOf}
 use Rattle.net_sheets.specs.Lister.Turns.{turnAt, isNone, partIn, turnNumbers, Says}

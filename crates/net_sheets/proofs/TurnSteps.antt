@@ -1,15 +1,7 @@
 -- The place of the next line feed, and the line after a line.
 -- Assumes nothing.
-use Prim.Native.Nat.{ℕ, zero, suc, _+_, _≤_, _<_}
-use mathlib.Core.Path.{_≡_, ap, _∙_}
-use mathlib.Core.Bool.{true, false}
-use mathlib.Core.List.{List, [], _∷_}
-use native.Mathlib.Numerals.{add-one}
-use native.Mathlib.Omega.{arith}
-use lib.ListN.{length, getD, drop, length-drop, drop-of-length-le}
-use lib.Seq.{drop-cons}
-use lib.Dec.{eqb}
-use borrow.Author.Tests.{eq-eqb, ne-eqb}
+use Rattle.laws.specs.Prelude.{ℕ, _<_, _≤_, _+_, suc, zero, _≡_, _∙_, ap, true, false, List, [], _∷_, add-one, arith, eqb, length, getD, drop, length-drop}
+use Rattle.laws.specs.Prelude.{drop-of-length-le, drop-cons, eq-eqb, ne-eqb}
 use Rattle.rules.specs.Text.{newline}
 use Rattle.rules.specs.Calls.Lister.{lineLength, afterLines}
 use Rattle.net_sheets.specs.Lister.Places.{lineStart, lineAfter, Onward}

@@ -1,12 +1,6 @@
 -- One turn of `layers`: the layers of the first k gates are known. Assumes nothing.
-use Prim.Native.Nat.{ℕ, zero, suc, _+_, _-_, _≤_, _<_, max}
-use mathlib.Core.Path.{_≡_, refl, sym, ap, ap₂, _∙_}
-use mathlib.Core.List.{List, [], _∷_, _++_, map}
-use native.Mathlib.Nat.{add-zero}
-use native.Mathlib.Numerals.{add-one}
-use native.Mathlib.Omega.{arith}
-use lib.ListN.{length, getD, take, set, replicate, length-set, length-replicate, replicate-append-replicate}
-use lib.Seq.{take-at, getD-take, take-suc-set}
+use Rattle.laws.specs.Prelude.{ℕ, _<_, _≤_, _+_, _-_, suc, zero, max, _≡_, _∙_, sym, ap, refl, ap₂, List, [], _∷_, _++_, map, add-zero, add-one, arith}
+use Rattle.laws.specs.Prelude.{length, getD, take, set, length-set, replicate, length-replicate, replicate-append-replicate, getD-take, take-at, take-suc-set}
 use Rattle.rules.specs.Lists.{range, withEach}
 use Rattle.rules.specs.Nets.Layers.{layers}
 use Rattle.laws.specs.Nets.Layers.{layers-depth}
@@ -58,7 +52,12 @@ module _ (net : Net) (sound : Sound net) where
 
     pub depth-small : (i : ℕ) → i < net .inputs + k → getD depths i 0 ≤ k
     depth-small i h =
-        omega (arith, at i h, map-range-length (gateOf net) 0 k, times-most 1 0 (replicate (net .inputs) 0) (map (gateOf net) (range 0 k)) (λ j. omega (arith, zero-at (net .inputs) j)) i)
+        omega (
+          arith,
+          at i h,
+          map-range-length (gateOf net) 0 k,
+          times-most 1 0 (replicate (net .inputs) 0) (map (gateOf net) (range 0 k)) (λ j. omega (arith, zero-at (net .inputs) j)) i,
+        )
 
     module _ (turn : k < net .gates) (d : ℕ) (e : d ≡ max (getD depths (getD (net .left) k 0) 0) (getD depths (getD (net .right) k 0) 0)) where
       one-more : 1 + d ≡ gateTime 1 (layersTo net k) (gateOf net k)

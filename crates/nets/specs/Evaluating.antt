@@ -1,9 +1,6 @@
 -- A net's table in a buffer.
 -- Assumes nothing.
-use Prim.Native.Nat.{ℕ, _^_}
-use mathlib.Core.Path.{_≡_}
-use mathlib.Core.List.{List}
-use lib.ListN.{take}
+use Rattle.laws.specs.Prelude.{ℕ, _^_, _≡_, List, take}
 use Rattle.rules.specs.Nets.Value.{tableOf}
 use Rattle.rules.specs.Calls.Answers.{written}
 use Rattle.nets.specs.declared.forms.Net.{Net}

@@ -1,9 +1,6 @@
 -- What the code's forms represent in the definitions.
 -- Assumes nothing.
-use Prim.Native.Nat.{ℕ, _+_, _*_, _≤_, _<_}
-use mathlib.Core.Path.{_≡_}
-use mathlib.Core.List.{List, map}
-use lib.ListN.{length, getD, take, drop, replicate}
+use Rattle.laws.specs.Prelude.{ℕ, _<_, _≤_, _+_, _*_, _≡_, List, map, length, getD, take, drop, replicate}
 use Rattle.rules.specs.Lists.{range}
 use Rattle.rules.specs.Sheets.Sheets as sheets
 use Rattle.rules.specs.Limits.{mostInputs}

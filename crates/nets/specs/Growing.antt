@@ -1,13 +1,7 @@
 -- A net with one more gate, by value: its references are set and its digits are written after the others.
 -- Assumes nothing.
-use Prim.Native.Nat.{ℕ, _+_, _*_, _≤_, _<_}
-use mathlib.Core.Path.{_≡_, ap, ap₂, _∙_}
-use mathlib.Core.List.{List, [], _∷_, _++_, map}
-use native.Mathlib.Nat.{mul-le-mul-right}
-use native.Mathlib.Numerals.{add-one}
-use native.Mathlib.Omega.{arith}
-use lib.ListN.{length, take, drop, set}
-use lib.Seq.{paste, getD-set-same, getD-set-other}
+use Rattle.laws.specs.Prelude.{ℕ, _<_, _≤_, _+_, _*_, _≡_, _∙_, ap, ap₂, List, [], _∷_, _++_, map, mul-le-mul-right, add-one, arith, length, take, drop}
+use Rattle.laws.specs.Prelude.{set, getD-set-same, getD-set-other, paste}
 use Rattle.rules.specs.Lists.{range}
 use Rattle.rules.specs.Sheets.Sheets.{Gate}
 use Rattle.laws.specs.Lists.Pastes.{part-before, part-pasted}

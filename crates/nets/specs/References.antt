@@ -1,11 +1,6 @@
 -- The references of a gate are inputs and earlier gates: one step over a net's gates.
 -- Assumes nothing.
-use Prim.Native.Nat.{ℕ, zero, suc, _+_, _<_}
-use mathlib.Core.Path.{_≡_}
-use mathlib.Core.List.{map}
-use native.Mathlib.Nat.{zero-add, add-zero}
-use native.Mathlib.Omega.{arith}
-use lib.ListN.{getD}
+use Rattle.laws.specs.Prelude.{ℕ, _<_, _+_, suc, zero, _≡_, map, zero-add, add-zero, arith, getD}
 use Rattle.rules.specs.Lists.{range}
 use Rattle.rules.specs.Sheets.Sheets.{Gate}
 use Rattle.rules.specs.Sheets.SheetRules.{RefersBack}
@@ -14,7 +9,8 @@ use Rattle.nets.specs.Forms.{gateOf, gatesOf}
 use Rattle.nets.specs.Room.{mostGates, mostWires}
 use Rattle.nets.specs.Sound.{Sound, sound-size, gates-count, wires-room}
 
-back-at : (f : ℕ → Gate) (i from count k : ℕ) → k < count → RefersBack i (map f (range from count)) → (f (from + k) .left < i + k) × (f (from + k) .right < i + k)
+back-at : (f : ℕ → Gate) (i from count k : ℕ) → k < count → RefersBack i (map f (range from count)) → (f (from + k) .left < i + k)
+    × (f (from + k) .right < i + k)
 unfolding range
 back-at f i from zero k h b = absurd (omega arith)
 back-at f i from (suc count) zero h b = simp add-zero (b .0, b .1)

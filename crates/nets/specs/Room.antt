@@ -1,12 +1,6 @@
 -- The forms have room for every net within a sheet's bounds: one test over all sizes, computed.
 -- Assumes nothing.
-use Prim.Native.Nat.{ℕ, _+_, _-_, _*_, _≤_, _<_}
-use mathlib.Core.Path.{_≡_, refl}
-use mathlib.Core.Bool.{Bool, true, not, _||_}
-use native.Mathlib.Nat.{le-trans, mul-le-mul-right}
-use native.Mathlib.Omega.{arith}
-use borrow.Author.Tests.{leb-true}
-use lib.Dec.{leb}
+use Rattle.laws.specs.Prelude.{ℕ, _<_, _≤_, _+_, _-_, _*_, _≡_, refl, true, Bool, not, _||_, mul-le-mul-right, le-trans, arith, leb, leb-true}
 use Rattle.rules.specs.Lists.{range, all}
 use Rattle.rules.specs.Limits.{mostInputs, levelsFit, inputsFit, cellsFit, sizeFits}
 use Rattle.laws.specs.Numbers.Sizes.{sized, everySize, at-size}

@@ -1,10 +1,6 @@
 -- What reading and settling prove about a net.
 -- Assumes nothing.
-use Prim.Native.Nat.{_+_, _≤_, _<_}
-use mathlib.Core.Path.{_≡_}
-use mathlib.Core.Bool.{true}
-use native.Mathlib.Omega.{arith}
-use lib.ListN.{length}
+use Rattle.laws.specs.Prelude.{_<_, _≤_, _+_, _≡_, true, arith, length}
 use Rattle.rules.specs.Limits.{sizeFits}
 use Rattle.rules.specs.Sheets.SheetRules.{IsNet}
 use Rattle.laws.specs.Lists.Ranges.{map-range-length}

@@ -1,11 +1,6 @@
 -- The digits of each gate of a net: they are m·m digits below m, inside the net's digits.
 -- Assumes nothing.
-use Prim.Native.Nat.{ℕ, zero, suc, _+_, _*_, _≤_, _<_}
-use mathlib.Core.Path.{_≡_}
-use mathlib.Core.List.{map}
-use native.Mathlib.Nat.{zero-add, add-zero, mul-pos}
-use native.Mathlib.Omega.{arith}
-use lib.ListN.{length, length-take, length-drop}
+use Rattle.laws.specs.Prelude.{ℕ, _<_, _≤_, _+_, suc, _*_, zero, _≡_, map, zero-add, add-zero, mul-pos, arith, length, length-drop, length-take}
 use Rattle.rules.specs.Lists.{range}
 use Rattle.rules.specs.Sheets.Sheets.{Gate}
 use Rattle.rules.specs.Sheets.SheetRules.{GateTable, Tables}

@@ -1,13 +1,7 @@
 -- Document 003 (Butler), section VII, Conjecture 2, and a proof that it is false. Document 01's case 7 is a counterexample; with one more input
 -- it is one in which each group of a decomposition has several inputs.
 -- Assumes nothing.
-use Prim.Native.Nat.{ℕ, _/_, _%_, _^_, _<_}
-use mathlib.Core.Path.{_≡_, refl}
-use mathlib.Core.Logic.{_↔_}
-use mathlib.Core.Bool.{Bool, true, false, cond}
-use mathlib.Core.List.{[], _∷_}
-use native.Mathlib.Omega.{arith}
-use lib.Dec.{eqb, lit<}
+use Rattle.laws.specs.Prelude.{ℕ, _<_, _^_, _%_, _/_, _≡_, refl, _↔_, true, false, Bool, cond, [], _∷_, arith, eqb, lit<}
 use Rattle.rules.specs.Lists.{range, those}
 use Rattle.rules.specs.Groups.Groups.{member, others, wholeGroup, size}
 use Rattle.rules.specs.Nets.Filling.{classNumber}

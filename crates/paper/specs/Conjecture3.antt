@@ -1,12 +1,6 @@
 -- Document 003 (Butler), section VII, Conjecture 3, and a proof that it is false.
 -- Assumes nothing.
-use Prim.Native.Nat.{ℕ, zero, suc, _+_, _^_, _≤_, _<_}
-use mathlib.Core.Path.{_≡_, refl, ap₂, subst, subst⁻¹}
-use mathlib.Core.Logic.{_↔_, _≢_}
-use mathlib.Core.List.{List, [], _∷_}
-use native.Mathlib.Omega.{arith}
-use lib.ListN.{getD}
-use lib.Dec.{lit<, lit≤}
+use Rattle.laws.specs.Prelude.{ℕ, _<_, _≤_, _+_, _^_, suc, zero, _≡_, refl, subst, ap₂, subst⁻¹, _↔_, _≢_, List, [], _∷_, arith, lit<, lit≤, getD}
 use Rattle.rules.specs.Text.{text}
 use Rattle.rules.specs.Groups.Groups.{part, others, wholeGroup, classes, multiplicity}
 use Rattle.rules.specs.Sheets.Sheets.{level}

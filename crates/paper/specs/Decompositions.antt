@@ -1,11 +1,7 @@
 -- Document 003 (Butler), section II: simple and complex disjunctive decompositions, and Theorems 1 and 2, for every table of m levels
 -- and n inputs and every group X of the inputs. Y is the group of the other inputs.
 -- Assumes nothing.
-use Prim.Native.Nat.{ℕ, _+_, _^_, _≤_, _<_}
-use mathlib.Core.Path.{_≡_, sym, ap, _∙_, _≡⟨_⟩_, _∎}
-use mathlib.Core.Logic.{_↔_}
-use native.Mathlib.Nat.{add-comm, lt-of-lt-of-le}
-use lib.ListN.{getD}
+use Rattle.laws.specs.Prelude.{ℕ, _<_, _≤_, _+_, _^_, _≡_, _∙_, sym, ap, _∎, _≡⟨_⟩_, _↔_, lt-of-lt-of-le, add-comm, getD}
 use Rattle.rules.specs.Groups.Groups.{part, others, classes, multiplicity}
 use Rattle.rules.specs.Nets.Filling.{classNumber}
 use Rattle.trees.specs.Trees.Trees.{mix, Alike, Tells}

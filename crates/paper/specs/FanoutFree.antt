@@ -1,11 +1,7 @@
 -- Document 003 (Butler), sections I to III: fanout-free functions, and how marks decide them. A function of a group's levels that determines
 -- the ink is fanout-free only if the group has mark 2; if it has, the group's classes are fanout-free, and so is the ink.
 -- Assumes nothing.
-use Prim.Native.Nat.{ℕ, _+_, _^_, _≤_, _<_}
-use mathlib.Core.Path.{_≡_, refl, sym, ap, _∙_}
-use mathlib.Core.Logic.{_≢_, _⊎_, inl, inr}
-use mathlib.Core.Bool.{Bool, true, false}
-use native.Mathlib.Omega.{arith}
+use Rattle.laws.specs.Prelude.{ℕ, _<_, _≤_, _+_, _^_, _≡_, _∙_, sym, ap, refl, _≢_, _⊎_, inl, inr, true, false, Bool, arith}
 use Rattle.rules.specs.Groups.Groups.{part, size, multiplicity}
 use Rattle.rules.specs.Groups.Marks.{marksOf}
 use Rattle.rules.specs.Nets.Wirings.{Wiring, input, gate, groupOf}

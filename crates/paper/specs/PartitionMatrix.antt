@@ -1,14 +1,8 @@
 -- Document 003 (Butler), section II: the partition matrix of a table for a group X and the others, Y. Its column multiplicity and
 -- its row multiplicity are document 01's multiplicities of the two groups.
 -- Assumes nothing.
-use Prim.Native.Nat.{ℕ, _+_, _^_, _<_}
-use mathlib.Core.Path.{_≡_, refl, sym, ap, _∙_, fun-ext}
-use mathlib.Core.Bool.{Bool, true, false}
-use mathlib.Core.List.{List, [], _∷_, map}
-use native.Mathlib.Nat.{add-comm}
-use native.Mathlib.Omega.{arith}
-use lib.ListN.{length, length-map}
-use lib.Dec.{eqb}
+use Rattle.laws.specs.Prelude.{ℕ, _<_, _+_, _^_, _≡_, _∙_, sym, ap, refl, fun-ext, true, false, Bool, List, [], _∷_, map, add-comm, arith, eqb, length}
+use Rattle.laws.specs.Prelude.{length-map}
 use Rattle.rules.specs.Lists.{all, same}
 use Rattle.rules.specs.Groups.Groups.{size, others, wholeGroup, points, alikeOver, firsts, classes, multiplicity}
 use Rattle.rules.specs.Calls.Answers.{inkIn}

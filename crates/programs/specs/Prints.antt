@@ -1,12 +1,7 @@
 -- What a program's output function returns: the text that the program prints, followed by zeros.
 -- Assumes nothing.
-use Prim.Native.Nat.{ℕ, zero, suc, _-_, _≤_}
-use mathlib.Core.Path.{_≡_, refl, sym, ap, _∙_, subst}
-use mathlib.Core.List.{List, _++_}
-use native.Mathlib.Nat.{sub-zero, zero-sub, suc-sub-suc, min-le-right}
-use native.Mathlib.Omega.{arith}
-use lib.ListN.{length, take, drop, length-append, length-take, length-replicate}
-use lib.Seq.{length-take-le}
+use Rattle.laws.specs.Prelude.{ℕ, _≤_, _-_, suc, zero, _≡_, _∙_, sym, ap, refl, subst, List, _++_, sub-zero, min-le-right, suc-sub-suc, zero-sub, arith}
+use Rattle.laws.specs.Prelude.{length, take, drop, length-append, length-take, length-replicate, length-take-le}
 use Rattle.rules.specs.Calls.Answers.{written}
 use Rattle.rules.specs.Calls.Programs.{refusalLines, programOutput, zeros}
 use Rattle.answers.specs.declared.answer.Answer as own

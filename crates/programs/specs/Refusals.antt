@@ -1,8 +1,6 @@
 -- How long the two lines of a refusal can be.
 -- Assumes nothing.
-use Prim.Native.Nat.{ℕ, _^_, _≤_, _<_}
-use native.Mathlib.Omega.{arith}
-use lib.ListN.{length, length-append}
+use Rattle.laws.specs.Prelude.{ℕ, _<_, _≤_, _^_, arith, length, length-append}
 use Rattle.rules.specs.Text.{space, newline, text}
 use Rattle.rules.specs.Sheets.Printed.{line}
 use Rattle.rules.specs.Calls.Programs.{refusalLines}

@@ -1,15 +1,11 @@
 -- The loop of `offsets` over plain lists: before the turn for input i, the offsets are those of the inputs from i on.
 -- Assumes nothing.
-use Prim.Native.Nat.{ℕ, suc, _-_, _*_, _^_, _≤_, _<_}
-use mathlib.Core.Path.{_≡_, refl, sym, ap, ap₂, _∙_, subst⁻¹, subst₂}
-use mathlib.Core.Bool.{true, false}
-use mathlib.Core.List.{List, [], _∷_}
-use native.Mathlib.Nat.{pow-zero, pow-suc, pow-le-pow-right, mul-le-mul-right, le-trans}
-use native.Mathlib.Omega.{arith}
-use lib.ListN.{length, getD, take, set}
-use lib.Seq.{getD-take}
-use Rattle.rules.specs.Groups.Groups.{member, points}
+use Rattle.laws.specs.Prelude.{ℕ, _<_, _≤_, _+_, _-_, _^_, suc, _*_, zero, _≡_, _∙_, sym, ap, refl, subst, ap₂, subst⁻¹, subst₂, true, false, Bool, List}
+use Rattle.laws.specs.Prelude.{[], _∷_, zero-add, pow-suc, le-trans, pow-zero, pow-le-pow-right, mul-one, mul-le-mul-left, arith, length, getD, take, set}
+use Rattle.laws.specs.Prelude.{getD-take}
+use Rattle.rules.specs.Groups.Groups.{member, size, points}
 use Rattle.laws.specs.Lists.Bounds.{below-at}
+use Rattle.trees.specs.Groups.Points.{points-length}
 use Rattle.radix.specs.Fronts.{Front}
 use Rattle.radix.specs.Offsets.{widened, widened-length, tail, tail-member, tail-other, tail-below, tail-length, points-tail}
 
@@ -47,6 +43,20 @@ module _ (m n g : ℕ) where
       all : n - i ≡ n
       all = omega arith
 
+  -- the offsets of the inputs from i on are no more than all
+  tail-grows : 0 < m → (i k : ℕ) → length (tail m g i k) ≤ length (tail m g 0 (i + k))
+  tail-grows pos zero k = omega (arith, ap (λ (j : ℕ). length (tail m g 0 j)) (zero-add k))
+  tail-grows pos (suc i) k =
+      le-trans (step (member i g) refl)
+      (subst (λ (j : ℕ). length (tail m g i (suc k)) ≤ length (tail m g 0 j)) (omega arith) (tail-grows pos i (suc k)))
+    where
+      step : (t : Bool) → member i g ≡ t → length (tail m g (suc i) k) ≤ length (tail m g i (suc k))
+      step true e =
+          let l : length (tail m g i (suc k)) ≡ length (tail m g (suc i) k) * m =
+          ap length (tail-member m g i k e) ∙ widened-length m (m ^ k) (tail m g (suc i) k) in
+          omega (arith, l, mul-le-mul-left (length (tail m g (suc i) k)) pos, mul-one (length (tail m g (suc i) k)))
+      step false e = omega (arith, ap length (tail-other m g i k e))
+
   module _ (pos : 0 < m) (out : List ℕ) (len w i : ℕ) (b : Built out len w i) where
     pub built-some : 0 < len
     built-some = subst⁻¹ (λ (k : ℕ). 0 < k) (b .count) (tail-length m g i (n - i) pos .0)
@@ -76,17 +86,26 @@ module _ (m n g : ℕ) where
       pub built-next : w * m ≤ m ^ n
       built-next = subst⁻¹ (λ (k : ℕ). k ≤ m ^ n) next-weight (pow-le-pow-right pos (omega arith))
 
-      -- there is room for the widened list
-      pub built-room : len * m ≤ m ^ n
-      built-room = le-trans
-          (mul-le-mul-right m (subst⁻¹ (λ (k : ℕ). k ≤ w) (b .count)
-          (subst⁻¹ (λ (k : ℕ). length (tail m g i (n - i)) ≤ k) (b .weight) (tail-length m g i (n - i) pos .1)))) built-next
-
       next-member : member (i - 1) g ≡ true → tail m g (i - 1) (n - (i - 1)) ≡ widened m w (take len out)
       next-member e =
           ap (tail m g (i - 1)) steps
           ∙ tail-member m g (i - 1) (n - i) e
           ∙ ap₂ (widened m) (sym (b .weight)) (ap (λ (k : ℕ). tail m g k (n - i)) back ∙ sym (b .front))
+
+      next-count : member (i - 1) g ≡ true → len * m ≡ length (tail m g (i - 1) (n - (i - 1)))
+      next-count e =
+          ap (λ (k : ℕ). k * m) (b .count ∙ ap length (sym (b .front))) ∙ sym (widened-length m w (take len out)) ∙ ap length (sym (next-member e))
+
+      -- there is room for the widened list
+      pub built-room : member (i - 1) g ≡ true → len * m ≤ m ^ size n g
+      built-room e =
+          let all : i - 1 + (n - (i - 1)) ≡ n = omega (arith, b .low) in
+          omega (
+            arith,
+            next-count e,
+            tail-grows pos (i - 1) (n - (i - 1)),
+            ap (λ (k : ℕ). length (tail m g 0 k)) all ∙ ap length (sym (points-tail m n g)) ∙ points-length m n pos g,
+          )
 
       -- if the input is a member
       pub built-member : (out′ : List ℕ) (len′ : ℕ) → member (i - 1) g ≡ true → len′ ≡ len * m
@@ -95,8 +114,7 @@ module _ (m n g : ℕ) where
           record {
             low = omega (arith, b .low);
             weight = next-weight;
-            count = l ∙ ap (λ (k : ℕ). k * m) (b .count ∙ ap length (sym (b .front))) ∙ sym (widened-length m w (take len out))
-                ∙ ap length (sym (next-member e));
+            count = l ∙ next-count e;
             front = ap (λ (k : ℕ). take k out′) l ∙ f ∙ sym (next-member e);
           }
 

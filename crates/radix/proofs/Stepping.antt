@@ -1,11 +1,6 @@
 -- One turn of `next_levels`: the first i levels are still to be stepped. Assumes nothing.
-use Prim.Native.Nat.{ℕ, zero, suc, _+_, _-_, _≤_, _<_}
-use mathlib.Core.Path.{_≡_, refl, sym, ap₂, _∙_}
-use mathlib.Core.List.{List, _∷_, _++_}
-use native.Mathlib.Nat.{le-refl}
-use native.Mathlib.Omega.{arith}
-use lib.ListN.{length, getD, take, drop, set}
-use lib.Seq.{take-suc, append-snoc, set-split, take-set-le, drop-cons, getD-set-same, drop-set-lt, lt-length-set}
+use Rattle.laws.specs.Prelude.{ℕ, _<_, _≤_, _+_, _-_, suc, zero, _≡_, _∙_, sym, refl, ap₂, List, _∷_, _++_, le-refl, arith, length, getD, take, drop, set}
+use Rattle.laws.specs.Prelude.{getD-set-same, drop-cons, append-snoc, drop-set-lt, take-set-le, take-suc, lt-length-set, set-split}
 use Rattle.laws.specs.Numbers.Levels.{nextLevels, next-turn, next-up}
 
 -- the first i levels stepped, and the rest unchanged

@@ -1,13 +1,8 @@
 -- The loop of `widen` over plain lists: at turn j the first j entries are those of the widened list.
 -- Assumes nothing.
-use Prim.Native.Nat.{ℕ, zero, suc, _+_, _-_, _*_, _/_, _%_, _≤_, _<_}
-use mathlib.Core.Path.{_≡_, sym, ap, _∙_, subst, subst⁻¹}
-use mathlib.Core.List.{List, [], _∷_, _++_}
-use native.Mathlib.Nat.{mul-le-mul-left, mul-le-mul-right, mul-comm, mod-lt, div-lt-iff-lt-mul, zero-mul, le-of-lt}
-use native.Mathlib.Numerals.{add-one}
-use native.Mathlib.Omega.{arith}
-use lib.ListN.{length, getD, take, set}
-use lib.Seq.{take-suc, take-suc-set, getD-take, length-take-le}
+use Rattle.laws.specs.Prelude.{ℕ, _<_, _≤_, _+_, _-_, suc, _*_, zero, _%_, _/_, _≡_, _∙_, sym, ap, subst, subst⁻¹, List, [], _∷_, _++_, zero-mul}
+use Rattle.laws.specs.Prelude.{mul-le-mul-right, mod-lt, div-lt-iff-lt-mul, mul-comm, mul-le-mul-left, le-of-lt, add-one, arith, length, getD, take, set}
+use Rattle.laws.specs.Prelude.{length-take-le, getD-take, take-suc-set, take-suc}
 use Rattle.radix.specs.Widths.{offsetsEnd}
 use Rattle.radix.specs.Offsets.{widened, widened-length, widened-front, widened-step, widened-at}
 

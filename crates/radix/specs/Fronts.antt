@@ -1,11 +1,6 @@
 -- A list at the front of another, as a call of `offsets` leaves it; and the number of the other inputs' group.
 -- Assumes nothing.
-use Prim.Native.Nat.{ℕ, _-_, _^_, _≤_}
-use mathlib.Core.Path.{_≡_, ap, _∙_}
-use mathlib.Core.List.{List}
-use native.Mathlib.Nat.{sub-zero}
-use native.Mathlib.Omega.{arith}
-use lib.ListN.{length, take, length-take}
+use Rattle.laws.specs.Prelude.{ℕ, _≤_, _-_, _^_, _≡_, _∙_, ap, List, sub-zero, arith, length, take, length-take}
 use Rattle.rules.specs.Groups.Groups.{wholeGroup, others}
 
 -- xs is the first r elements of out

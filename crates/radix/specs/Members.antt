@@ -1,13 +1,8 @@
 -- The test whether a group has only one member, its first-listed member as a count of zeros, and the number of its members as a count of bits.
 -- Assumes nothing.
-use Prim.Native.Nat.{ℕ, zero, suc, _+_, _-_, _/_, _%_, _^_, _<_}
-use mathlib.Core.Path.{_≡_, refl, sym, ap, _∙_}
-use mathlib.Core.Bool.{Bool, true, false, cond}
-use native.Mathlib.Decide.{decLt}
-use native.Mathlib.Omega.{arith}
-use borrow.Author.Tests.{eq-eqb, ne-eqb}
+use Rattle.laws.specs.Prelude.{ℕ, _<_, _+_, _-_, _^_, suc, zero, _%_, _/_, _≡_, _∙_, sym, ap, refl, true, false, Bool, cond, decLt, arith, eqb, eq-eqb}
+use Rattle.laws.specs.Prelude.{ne-eqb}
 use lib.Count.{trailingZeros, under, ones, ones-step}
-use lib.Dec.{eqb}
 use Rattle.rules.specs.Groups.Groups.{member, size}
 use Rattle.rules.specs.Nets.Wirings.{firstInput}
 use Rattle.trees.specs.Groups.Members.{low-bit, first-odd, first-even, size-zero, size-suc, size-single, size-one, first-member}

@@ -1,16 +1,11 @@
 -- A group's assignments built from the last input to the first, as the code builds them: they are document 01's, and each is
 -- small.
 -- Assumes nothing.
-use Prim.Native.Nat.{ℕ, zero, suc, _+_, _*_, _/_, _%_, _^_, _≤_, _<_}
-use mathlib.Core.Path.{_≡_, refl, sym, ap, ap₂, _∙_, subst, subst⁻¹}
-use mathlib.Core.Bool.{Bool, true, false}
-use mathlib.Core.List.{List, [], _∷_, _++_, map, append-nil, map-map, map-id}
-use native.Mathlib.Nat.{zero-mul, zero-add, add-comm, mod-lt, div-lt-iff-lt-mul, div-add-mod', add-mul, mul-assoc, add-assoc, mul-one, pow-zero}
-use native.Mathlib.Nat.{pow-suc, add-zero, add-suc, suc-add, mul-comm, suc-mul, mul-suc, mul-zero, mul-le-mul-left, mul-le-mul-right, lt-of-lt-of-le}
-use native.Mathlib.Nat.{le-mul-of-pos-right, one-le-mul}
-use native.Mathlib.Omega.{arith}
-use lib.ListN.{length, getD, take, length-append, length-map, List·getD-append}
-use lib.Seq.{take-at, getD-append-add}
+use Rattle.laws.specs.Prelude.{ℕ, _<_, _≤_, _+_, _^_, suc, _*_, zero, _%_, _/_, _≡_, _∙_, sym, ap, refl, subst, ap₂, subst⁻¹, true, false, Bool, List, []}
+use Rattle.laws.specs.Prelude.{_∷_, _++_, map, append-nil, map-map, map-id, zero-add, add-zero, zero-mul, mul-le-mul-right, pow-suc, suc-mul, pow-zero}
+use Rattle.laws.specs.Prelude.{mod-lt, lt-of-lt-of-le, div-lt-iff-lt-mul, div-add-mod', mul-comm, mul-one, add-assoc, mul-assoc, add-mul, mul-zero}
+use Rattle.laws.specs.Prelude.{add-comm, suc-add, add-suc, mul-le-mul-left, mul-suc, le-mul-of-pos-right, one-le-mul, arith, length, getD, take}
+use Rattle.laws.specs.Prelude.{length-append, length-map, List·getD-append, take-at, getD-append-add}
 use Rattle.rules.specs.Lists.{range, concatMap}
 use Rattle.rules.specs.Groups.Groups.{member, points}
 use Rattle.laws.specs.Lists.Bounds.{Below, below-append, below-map, below-more}

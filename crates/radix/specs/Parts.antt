@@ -1,10 +1,7 @@
 -- Groups as bit patterns: the parts of a group in rising order, and a group without its first-listed input.
 -- Assumes nothing.
-use Prim.Native.Nat.{ℕ, zero, suc, _+_, _-_, _*_, _/_, _%_, _^_, _≤_, _<_, min}
-use mathlib.Core.Path.{_≡_, refl, sym, ap, ap₂, _∙_, subst}
-use mathlib.Core.Bool.{Bool, true, false, cond, not, _&&_, and-eq-true-iff}
-use native.Mathlib.Decide.{decLt}
-use native.Mathlib.Omega.{arith}
+use Rattle.laws.specs.Prelude.{ℕ, _<_, _≤_, _+_, _-_, _^_, suc, _*_, zero, _%_, _/_, min, _≡_, _∙_, sym, ap, refl, subst, ap₂, true, false, Bool, _&&_}
+use Rattle.laws.specs.Prelude.{not, and-eq-true-iff, cond, decLt, arith}
 use lib.Bits.{bitAnd, and-step, and-zero-r, and-le-l, and-self}
 use Rattle.rules.specs.Groups.Groups.{member}
 use Rattle.rules.specs.Nets.Wirings.{firstInput}
@@ -116,6 +113,25 @@ without-first (suc n) g some g< = go (member 0 g) refl (without-first n (g / 2))
         rw (first-even n g even) (
           omega (arith, ih .0),
           omega (arith, and-step g (g - 1), ap (bitAnd (g / 2)) half ∙ ih .1, ih .0),
+        )
+
+-- a group plus less than its lowest bit still has its first-listed input
+pub first-run : (n g : ℕ) → 0 < g → g < 2 ^ n
+    → (g + 2 ^ firstInput n g ≤ 2 ^ n) × ((k : ℕ) → k < 2 ^ firstInput n g → member (firstInput n g) (g + k) ≡ true)
+first-run zero g some g< = absurd (omega arith)
+first-run (suc n) g some g< = go (member 0 g) refl (first-run n (g / 2))
+  where
+    go : (b : Bool) → member 0 g ≡ b
+        → (0 < g / 2 → g / 2 < 2 ^ n
+        → (g / 2 + 2 ^ firstInput n (g / 2) ≤ 2 ^ n) × ((k : ℕ) → k < 2 ^ firstInput n (g / 2) → member (firstInput n (g / 2)) (g / 2 + k) ≡ true))
+        → (g + 2 ^ firstInput (suc n) g ≤ 2 ^ suc n) × ((k : ℕ) → k < 2 ^ firstInput (suc n) g → member (firstInput (suc n) g) (g + k) ≡ true)
+    go true odd later = rw (first-odd n g odd) (omega arith, λ k k<. ap (member 0) (omega arith) ∙ odd)
+    go false even later =
+        let low : g % 2 ≡ 0 = low-bit g ∙ ap (λ b. cond b 1 0) even in
+        let ih = later (omega arith) (omega arith) in
+        rw (first-even n g even) (
+          omega (arith, ih .0),
+          λ k k<. member-suc (firstInput n (g / 2)) (g + k) ∙ ap (member (firstInput n (g / 2))) (omega arith) ∙ ih .1 (k / 2) (omega arith),
         )
 
 -- ---- parts by their members

@@ -1,11 +1,6 @@
 -- The weight of an input in an index: an index is the sum of its levels, each times its input's weight.
 -- Assumes nothing.
-use Prim.Native.Nat.{ℕ, _-_, _*_, _^_, _≤_, _<_}
-use mathlib.Core.Path.{_≡_, subst}
-use mathlib.Core.List.{List}
-use native.Mathlib.Nat.{pow-suc, pow-le-pow-right}
-use native.Mathlib.Omega.{arith}
-use lib.ListN.{getD}
+use Rattle.laws.specs.Prelude.{ℕ, _<_, _≤_, _-_, _^_, _*_, _≡_, subst, List, pow-suc, pow-le-pow-right, arith, getD}
 
 -- ws holds every input's weight
 abbrev pub Weights : ℕ → ℕ → List ℕ → Type 0

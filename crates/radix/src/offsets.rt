@@ -2,7 +2,7 @@
 ghost use mathlib.Core.Path.{_≡_};
 ghost use Prim.Native.Nat.{ℕ, _+_, _*_, _^_, _≤_, _<_};
 ghost use lib.ListN.{length, take, getD};
-ghost use Rattle.rules.specs.Groups.Groups.{points, others};
+ghost use Rattle.rules.specs.Groups.Groups.{size, points, others};
 ghost use Rattle.radix.specs.Fronts.{Front};
 ghost use Rattle.radix.specs.Offsets.{widened};
 ghost use Rattle.radix.specs.Widths.{mostMembers, offsetsEnd, mostOffsets};
@@ -25,7 +25,7 @@ pub fn widen(out: &mut [u16], len: usize, w: u16, m: usize) -> usize
 
 // Writes the assignments of group g to the front of `out`, and returns how many there are.
 pub fn offsets(m: usize, n: usize, g: usize, out: &mut [u16]) -> usize
-    requires { ⌜ (0 < m) × (n ≤ mostMembers) × (m ^ n ≤ mostOffsets) × (m ^ n ≤ length (now out)) ⌝ }
+    requires { ⌜ (0 < m) × (n ≤ mostMembers) × (m ^ n ≤ mostOffsets) × (m ^ size n g ≤ length (now out)) ⌝ }
     ensures { λ r. ⌜ Front (points m n g) r (now (out .exit)) ⌝ }
 {
     let mut len: usize = 1;

@@ -1,15 +1,8 @@
 -- The loop of `agree` over plain numbers: the levels from input i on have been compared, and the rest of each number holds the levels before.
 -- Assumes nothing.
-use Prim.Native.Nat.{ℕ, suc, _+_, _-_, _/_, _%_, _^_, _≤_, _<_}
-use mathlib.Core.Path.{_≡_, sym, ap, _∙_}
-use mathlib.Core.Logic.{_≢_}
-use mathlib.Core.Bool.{true, not, _&&_, and-eq-true-iff, true≢false}
-use native.Mathlib.Nat.{pow-zero, pow-suc, div-one, div-div-eq-div-mul, div-eq-of-lt}
-use native.Mathlib.Decide.{ℕ-discrete, decLt}
-use native.Mathlib.Omega.{arith}
+use Rattle.laws.specs.Prelude.{ℕ, _<_, _≤_, _+_, _-_, _^_, suc, _%_, _/_, _≡_, _∙_, sym, ap, _≢_, true, _&&_, not, true≢false, and-eq-true-iff, pow-suc}
+use Rattle.laws.specs.Prelude.{pow-zero, div-div-eq-div-mul, div-eq-of-lt, div-one, decLt, ℕ-discrete, arith, eq-eqb, pow-add, pow-lt}
 use lib.Bits.{bitAnd, and-le-l}
-use lib.Pow.{pow-add, pow-lt}
-use borrow.Author.Tests.{eq-eqb}
 use Rattle.rules.specs.Sheets.Sheets.{level}
 use Rattle.rules.specs.Groups.Groups.{member, wholeGroup, others}
 use Rattle.trees.specs.Groups.Members.{member-single, single-below, member-others}

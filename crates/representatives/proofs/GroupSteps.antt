@@ -1,22 +1,15 @@
 -- A step from group to group over plain lists: the empty group, and a group to which too many classes pass on.
 -- Assumes nothing.
-use Prim.Native.Nat.{ℕ, _+_, _-_, _*_, _^_, _≤_, _<_}
-use mathlib.Core.Path.{_≡_, refl, sym, ap, _∙_, subst, subst⁻¹}
-use mathlib.Core.Bool.{true}
-use mathlib.Core.List.{List}
-use native.Mathlib.Nat.{zero-mul, one-le-pow}
-use native.Mathlib.Omega.{arith}
+use Rattle.laws.specs.Prelude.{ℕ, _<_, _≤_, _+_, _-_, _^_, _*_, _≡_, _∙_, sym, ap, refl, subst, subst⁻¹, true, List, zero-mul, one-le-pow, arith, length}
+use Rattle.laws.specs.Prelude.{getD, set, getD-set-same, eqb-true, pow-pos}
 use lib.Bits.{bitAnd, and-le-r}
-use borrow.Author.Tests.{eqb-true}
-use lib.ListN.{length, getD, set}
-use lib.Pow.{pow-pos}
-use lib.Seq.{getD-set-same}
 use Rattle.rules.specs.Groups.Groups.{member, size}
 use Rattle.rules.specs.Groups.Marks.{inside}
 use Rattle.trees.specs.Groups.Members.{member-single, single-below}
 use Rattle.rules.specs.Nets.Trees.{Apart}
 use Rattle.trees.specs.Trees.MarkTwo.{inside-trans}
 use Rattle.trees.specs.Groups.TakenOff.{off-inside, off-apart, alone-le}
+use Rattle.trees.specs.Groups.Classes.{class-below}
 use Rattle.trees.specs.Groups.Covers.{covers-same, empty-cover}
 use Rattle.trees.specs.Groups.Told.{Told, told-on}
 use Rattle.radix.specs.Parts.{PartOf, part-inside, inside-part, part-apart}
@@ -47,6 +40,7 @@ module _ {m n : ℕ} {f : ℕ → ℕ} {cells weights counts kept xs ys firsts :
               (record {
                 most = level;
                 fits = one-le-pow (size n 0) m level;
+                exact = omega (arith, class-below m n level f 0 (pow-pos n) 0);
                 cover = covers-same m n level f 0 1 (λ _. 0) _ entry (empty-cover m n level f);
               });
           many = λ h. absurd (omega arith);
@@ -113,4 +107,5 @@ module _ {m n : ℕ} {f : ℕ → ℕ} {cells weights counts kept xs ys firsts :
         told : Told m n f g (getD kept (h * m) 0) (m + 1)
         told =
             subst (λ (k : ℕ). Told m n f k (getD kept (h * m) 0) (m + 1)) whole
-            (told-on m n level f h (2 ^ one .input) (getD kept (h * m) 0) (m + 1) (omega (arith, step-off-lower, next .group)) (single-below (one .input) n (one .below)) apart holds (known .many (passes .over refl)))
+            (told-on m n level f h (2 ^ one .input) (getD kept (h * m) 0) (m + 1) (omega (arith, step-off-lower, next .group))
+            (single-below (one .input) n (one .below)) apart holds (known .many (passes .over refl)))

@@ -1,13 +1,8 @@
 -- The loop of `spread` over plain lists: the assignments so far cover the group without the remaining members.
 -- Assumes nothing.
-use Prim.Native.Nat.{ℕ, _+_, _-_, _*_, _/_, _%_, _^_, _≤_, _<_}
-use mathlib.Core.Path.{_≡_, refl, sym, ap, _∙_, subst, subst⁻¹, subst₂}
-use mathlib.Core.Bool.{true, false, not, _&&_, and-false}
-use mathlib.Core.List.{List}
-use native.Mathlib.Nat.{mul-assoc, mul-comm, pow-suc, pow-zero, mul-one, mod-lt, one-le-pow, one-le-mul, le-mul-of-pos-right}
-use native.Mathlib.Omega.{arith}
-use lib.ListN.{length, getD, take}
-use lib.Seq.{getD-take, length-take-le}
+use Rattle.laws.specs.Prelude.{ℕ, _<_, _≤_, _+_, _-_, _^_, _*_, _%_, _/_, _≡_, _∙_, sym, ap, refl, subst, subst⁻¹, subst₂, true, false, _&&_, not}
+use Rattle.laws.specs.Prelude.{and-false, List, pow-suc, pow-zero, mod-lt, mul-comm, mul-one, one-le-pow, mul-assoc, le-mul-of-pos-right, one-le-mul}
+use Rattle.laws.specs.Prelude.{arith, length, getD, take, length-take-le, getD-take}
 use Rattle.rules.specs.Groups.Groups.{member, size}
 use Rattle.rules.specs.Groups.Marks.{inside}
 use Rattle.rules.specs.Nets.Wirings.{firstInput}
@@ -92,12 +87,14 @@ module _ {m n : ℕ} {weights : List ℕ} {from to : ℕ} {before : List ℕ} {l
       next-times : count * m * m ^ size n (rest - 2 ^ i) ≡ len * m ^ size n (to - from)
       next-times =
           mul-assoc count m (m ^ size n (rest - 2 ^ i))
-          ∙ ap (λ (k : ℕ). count * k) (mul-comm m (m ^ size n (rest - 2 ^ i)) ∙ sym (pow-suc m (size n (rest - 2 ^ i))) ∙ ap (λ (k : ℕ). m ^ k) (sym (off-size n rest i spreads-group i< is)))
+          ∙ ap (λ (k : ℕ). count * k) (mul-comm m (m ^ size n (rest - 2 ^ i)) ∙ sym (pow-suc m (size n (rest - 2 ^ i)))
+          ∙ ap (λ (k : ℕ). m ^ k) (sym (off-size n rest i spreads-group i< is)))
           ∙ so-far .times
 
       -- there is room for the next
       pub spreads-room : count * m ≤ length out
-      spreads-room = omega (arith, le-mul-of-pos-right (count * m) (one-le-pow (size n (rest - 2 ^ i)) m (asked .levels)), next-times, so-far .same, asked .room)
+      spreads-room =
+          omega (arith, le-mul-of-pos-right (count * m) (one-le-pow (size n (rest - 2 ^ i)) m (asked .levels)), next-times, so-far .same, asked .room)
 
       pub spreads-small : (k : ℕ) → k < count → getD out k 0 + getD weights i 0 * m < offsetsEnd
       spreads-small k h =
@@ -108,7 +105,8 @@ module _ {m n : ℕ} {weights : List ℕ} {from to : ℕ} {before : List ℕ} {l
       spreads-next {after} {new} {left} new-is wide long left-is =
           record {
             same = long ∙ so-far .same;
-            left = subst⁻¹ (λ (k : ℕ). inside n k to ≡ true) off (inside-trans n (rest - 2 ^ i) rest to (off-inside n rest i spreads-group i< is) (so-far .left));
+            left = subst⁻¹ (λ (k : ℕ). inside n k to ≡ true) off
+                (inside-trans n (rest - 2 ^ i) rest to (off-inside n rest i spreads-group i< is) (so-far .left));
             low = omega (arith, off, so-far .low);
             some = subst⁻¹ (λ (k : ℕ). 0 < k) new-is (one-le-mul (so-far .some) (asked .levels));
             times = ap (λ (k : ℕ). k * m ^ size n left) new-is ∙ ap (λ (k : ℕ). count * m * m ^ size n k) off ∙ next-times;

@@ -1,10 +1,6 @@
 -- The loop of `source` over plain numbers: the members still to be tried are members of g, and so is the best so far.
 -- Assumes nothing.
-use Prim.Native.Nat.{ℕ, _-_, _^_, _≤_, _<_}
-use mathlib.Core.Path.{_≡_, subst⁻¹}
-use mathlib.Core.Bool.{true}
-use native.Mathlib.Omega.{arith}
-use lib.Pow.{pow-pos}
+use Rattle.laws.specs.Prelude.{ℕ, _<_, _≤_, _-_, _^_, _≡_, subst⁻¹, true, arith, pow-pos}
 use Rattle.rules.specs.Groups.Marks.{inside}
 use Rattle.rules.specs.Nets.Wirings.{firstInput}
 use Rattle.trees.specs.Groups.Members.{member-inside, first-member}
@@ -43,7 +39,8 @@ module _ {g rest best : ℕ} (so-far : Takes g rest best) (more : 0 < rest) {wit
         left = λ n g<.
             let rest< : rest < 2 ^ n = omega (arith, so-far .low) in
             let first = first-member n rest rest< more in
-            inside-trans n without rest g (subst⁻¹ (λ (k : ℕ). inside n k rest ≡ true) (off n rest<) (off-inside n rest (firstInput n rest) rest< (first .0) (first .1))) (so-far .left n g<);
+            inside-trans n without rest g (subst⁻¹ (λ (k : ℕ). inside n k rest ≡ true) (off n rest<)
+            (off-inside n rest (firstInput n rest) rest< (first .0) (first .1))) (so-far .left n g<);
         is = one;
       }
 

@@ -1,13 +1,7 @@
 -- Two rows and a column that distinguishes them.
 -- Assumes nothing.
-use Prim.Native.Nat.{ℕ, _+_}
-use mathlib.Core.Path.{_≡_, refl, sym, _∙_, subst}
-use mathlib.Core.Logic.{_≢_}
-use mathlib.Core.Bool.{Bool, true, false, true≢false}
+use Rattle.laws.specs.Prelude.{ℕ, _+_, _≡_, _∙_, sym, refl, subst, _≢_, true, false, Bool, true≢false, List, getD, eqb-true}
 use mathlib.Core.Option.{Option, none, some}
-use mathlib.Core.List.{List}
-use lib.ListN.{getD}
-use borrow.Author.Tests.{eqb-true}
 use Rattle.rules.specs.Groups.Groups.{alikeOver}
 use Rattle.laws.specs.Lists.Tests.{all-mem}
 use Rattle.laws.specs.Lists.Places.{mem-getD}

@@ -1,17 +1,8 @@
 -- Columns given as heads and a run: each head plus each number below the run. The cells of a row at the columns of one head are neighbours.
 -- Assumes nothing.
-use Prim.Native.Nat.{ℕ, _+_, _*_, _/_, _%_, _≤_, _<_}
-use mathlib.Core.Path.{_≡_, sym, ap, ap₂, _∙_, subst}
-use mathlib.Core.Logic.{_≢_}
-use mathlib.Core.Bool.{true}
-use mathlib.Core.List.{List, map, List·Memᴰ}
-use native.Mathlib.Nat.{add-assoc, zero-add, mul-comm, mul-one, zero-mul, mul-zero, mod-lt, mod-eq-of-lt, div-eq-of-lt, div-lt-iff-lt-mul}
-use native.Mathlib.Omega.{arith}
-use native.Mathlib.Decide.{decLt, ℕ-discrete}
-use lib.Dec.{eqb}
-use lib.Arith.{digits-lt, digits-div, digits-mod}
-use lib.ListN.{length, getD}
-use borrow.Author.Tests.{eq-eqb}
+use Rattle.laws.specs.Prelude.{ℕ, _<_, _≤_, _+_, _*_, _%_, _/_, _≡_, _∙_, sym, ap, subst, ap₂, _≢_, true, List, map, List·Memᴰ, zero-add, zero-mul, mod-lt}
+use Rattle.laws.specs.Prelude.{div-lt-iff-lt-mul, mul-comm, mul-one, add-assoc, mul-zero, mod-eq-of-lt, div-eq-of-lt, decLt, ℕ-discrete, arith, eqb}
+use Rattle.laws.specs.Prelude.{length, getD, eq-eqb, digits-lt, digits-mod, digits-div}
 use Rattle.rules.specs.Lists.{range}
 use Rattle.rules.specs.Groups.Groups.{alikeOver}
 use Rattle.laws.specs.Lists.Ranges.{map-range-length, map-range-at, map-range-same, by-places}
@@ -73,7 +64,8 @@ module _ (run : ℕ) (hs : List ℕ) where
       )
 
   -- rows that are equal in each head's run are alike
-  pub runs-alike : (f : ℕ → ℕ) (p q : ℕ) → ((j z : ℕ) → j < length hs → z < run → f (p + (getD hs j 0 + z)) ≡ f (q + (getD hs j 0 + z))) → alikeOver f (columnsOf run hs) p q ≡ true
+  pub runs-alike : (f : ℕ → ℕ) (p q : ℕ) → ((j z : ℕ) → j < length hs → z < run → f (p + (getD hs j 0 + z)) ≡ f (q + (getD hs j 0 + z)))
+      → alikeOver f (columnsOf run hs) p q ≡ true
   unfolding alikeOver
   runs-alike f p q same = mem-all _ (columnsOf run hs) at
     where

@@ -1,16 +1,9 @@
 -- Rows that cover a group and columns that cover the other inputs: what the first row of each class says about the group.
 -- Assumes nothing.
-use Prim.Native.Nat.{ℕ, _+_, _-_, _*_, _^_, _≤_, _<_}
-use mathlib.Core.Path.{_≡_, refl, sym, ap, _∙_, subst, subst⁻¹, subst₂}
-use mathlib.Core.Logic.{_⊎_, inl, inr}
-use mathlib.Core.Bool.{false}
-use mathlib.Core.List.{List, [], List·Memᴰ, List·Memᴰ·not-nil}
-use native.Mathlib.Nat.{lt-of-lt-of-le, le-trans, not-suc-le-zero, sub-zero, zero-add, one-mul, pow-zero, pow-suc, pow-le-pow-right}
-use native.Mathlib.Omega.{arith}
-use lib.ListN.{length, getD, take, set, length-take, length-set}
-use lib.Seq.{getD-take, length-take-le, getD-set-same, getD-set-other}
-use borrow.Author.Tests.{eq-eqb}
-use Rattle.rules.specs.Groups.Groups.{part, size, others, alikeOver}
+use Rattle.laws.specs.Prelude.{ℕ, _<_, _≤_, _+_, _-_, _^_, _*_, _≡_, _∙_, sym, ap, refl, subst, subst⁻¹, subst₂, _⊎_, inl, inr, false, List, [], List·Memᴰ}
+use Rattle.laws.specs.Prelude.{List·Memᴰ·not-nil, zero-add, sub-zero, pow-suc, le-trans, pow-zero, pow-le-pow-right, lt-of-lt-of-le, one-mul, not-suc-le-zero}
+use Rattle.laws.specs.Prelude.{arith, length, getD, take, set, length-set, length-take, getD-set-same, getD-set-other, length-take-le, getD-take, eq-eqb}
+use Rattle.rules.specs.Groups.Groups.{part, size, others, alikeOver, multiplicity}
 use Rattle.laws.specs.Lists.Tests.{mem-all}
 use Rattle.laws.specs.Lists.Places.{mem-getD, mem-place}
 use Rattle.trees.specs.Trees.Trees.{mix}
@@ -18,7 +11,7 @@ use Rattle.trees.specs.Groups.Members.{size-pos}
 use Rattle.trees.specs.Groups.Levels.{part-below, mix-below}
 use Rattle.trees.specs.Groups.Firsts.{Keeps, firsts-keep}
 use Rattle.trees.specs.Groups.Covers.{Covers, covers-same, row-column}
-use Rattle.trees.specs.Groups.Reps.{Listed, firsts-reps}
+use Rattle.trees.specs.Groups.Reps.{Listed, reps-count, firsts-reps}
 use Rattle.trees.specs.Groups.Told.{Told}
 use Rattle.classes.specs.Firsts.{classesOver, front-all, front-within}
 use Rattle.classes.specs.Within.{Within}
@@ -31,7 +24,8 @@ use Rattle.representatives.specs.Steps.{RepJudged}
 use Rattle.representatives.specs.Witnesses.{RowsTold, ToldAll}
 
 -- the front of an array, as a list
-pub front-listed : (m n : ℕ) → 0 < m → (f : ℕ → ℕ) (g : ℕ) (out : List ℕ) (count : ℕ) → count ≤ length out → Covers m n f g count (λ k. getD out k 0) → Listed m n f g (take (count - 0) out)
+pub front-listed : (m n : ℕ) → 0 < m → (f : ℕ → ℕ) (g : ℕ) (out : List ℕ) (count : ℕ) → count ≤ length out → Covers m n f g count (λ k. getD out k 0)
+    → Listed m n f g (take (count - 0) out)
 front-listed m n pos f g out count room cover =
     subst⁻¹ (λ (k : ℕ). Listed m n f g (take k out)) (sub-zero count)
     (subst⁻¹ (λ (k : ℕ). Covers m n f g k (λ j. getD (take count out) j 0)) (length-take-le count out room)
@@ -45,7 +39,8 @@ module _ {m n : ℕ} {f : ℕ → ℕ} {g : ℕ} (pos : 0 < m) (g< : g < 2 ^ n) 
   -- a row plus a column is an index
   pub counting-within : (cells : ℕ) → m ^ n ≤ cells → (p : ℕ) → part m n g p ≡ p → Within cells vs p
   counting-within cells room p own k k< =
-      lt-of-lt-of-le (subst (λ (x : ℕ). x < m ^ n) (row-column m n pos f g p (getD vs k 0) own (columns .own k k<)) (mix-below m n pos g p (getD vs k 0) g<)) room
+      lt-of-lt-of-le (subst (λ (x : ℕ). x < m ^ n) (row-column m n pos f g p (getD vs k 0) own (columns .own k k<))
+      (mix-below m n pos g p (getD vs k 0) g<)) room
 
   pub counting-fits : (cells room : ℕ) → m ^ n ≤ cells → m < room → RowsFit cells us vs m room
   counting-fits cells room fit more =
@@ -93,7 +88,18 @@ module _ {m n : ℕ} {f : ℕ → ℕ} {g : ℕ} (pos : 0 < m) (g< : g < 2 ^ n) 
     unfolding all classesOver
     counting-cover few =
         covers-same m n pos f g count _ _ at
-        (subst⁻¹ (λ (c : ℕ). Covers m n f g c (λ k. getD all k 0)) (front-all (m + 1) all found (omega (arith, front-within m all found few)) .count) (firsts-reps m n pos f g g< vs columns us rows .cover))
+        (subst⁻¹ (λ (c : ℕ). Covers m n f g c (λ k. getD all k 0)) (front-all (m + 1) all found (omega (arith, front-within m all found few)) .count)
+        (firsts-reps m n pos f g g< vs columns us rows .cover))
+
+    -- and there are no more than classes
+    pub counting-exact : count ≤ m → count ≤ multiplicity m n f g
+    unfolding all classesOver
+    counting-exact few =
+        omega (
+          arith,
+          front-all (m + 1) all found (omega (arith, front-within m all found few)) .count,
+          reps-count m n pos f g g< _ _ (firsts-reps m n pos f g g< vs columns us rows),
+        )
 
     -- if there are too many, columns distinguish them, ..
     pub counting-told : m < count → n ≤ mostMembers → (cells : ℕ) → m ^ n ≤ cells → RowsTold m n f cells vs fs
@@ -123,7 +129,8 @@ module _ {m n : ℕ} {f : ℕ → ℕ} {g : ℕ} (pos : 0 < m) (g< : g < 2 ^ n) 
               record {
                 column = tells .column;
                 same = tells .same;
-                differ = λ e. tells .differ (sym (ink (tells .column) (tells .there) j (omega arith)) ∙ sym e ∙ ink (tells .column) (tells .there) i (omega arith));
+                differ = λ e. tells .differ (sym (ink (tells .column) (tells .there) j (omega arith)) ∙ sym e
+                    ∙ ink (tells .column) (tells .there) i (omega arith));
               };
         }
       where
@@ -134,13 +141,16 @@ module _ {m n : ℕ} {f : ℕ → ℕ} {g : ℕ} (pos : 0 < m) (g< : g < 2 ^ n) 
 
 module _ {m n : ℕ} {f : ℕ → ℕ} {g from : ℕ} {before : List ℕ} (levels : 1 < m) (g< : g < 2 ^ n) (some : 0 < g) (room : g * m + m ≤ length before) where
   -- too many classes
-  pub judged-many : {s : ℕ} {after : List ℕ} → Told m n f g s (m + 1) → after ≡ set (set before (g * m) s) (g * m + 1) from → RepJudged m n f g from before 0 after
+  pub judged-many : {s : ℕ} {after : List ℕ} → Told m n f g s (m + 1) → after ≡ set (set before (g * m) s) (g * m + 1) from
+      → RepJudged m n f g from before 0 after
   judged-many {s} {after} told written =
       record {
-        below = λ j h. at j ∙ getD-set-other (set before (g * m) s) (g * m + 1) j from 0 (λ e. omega arith) ∙ getD-set-other before (g * m) j s 0 (λ e. omega arith);
+        below = λ j h. at j ∙ getD-set-other (set before (g * m) s) (g * m + 1) j from 0 (λ e. omega arith)
+            ∙ getD-set-other before (g * m) j s 0 (λ e. omega arith);
         few = λ h. absurd (omega arith);
         many = λ _. subst⁻¹ (λ (x : ℕ). Told m n f g x (m + 1))
-            (at (g * m) ∙ getD-set-other (set before (g * m) s) (g * m + 1) (g * m) from 0 (λ e. omega arith) ∙ getD-set-same before (g * m) s 0 (omega arith)) told;
+            (at (g * m) ∙ getD-set-other (set before (g * m) s) (g * m + 1) (g * m) from 0 (λ e. omega arith)
+            ∙ getD-set-same before (g * m) s 0 (omega arith)) told;
         base = λ _. at (g * m + 1) ∙ getD-set-same (set before (g * m) s) (g * m + 1) from 0 (omega (arith, length-set before (g * m) s));
       }
     where
@@ -148,13 +158,15 @@ module _ {m n : ℕ} {f : ℕ → ℕ} {g from : ℕ} {before : List ℕ} (level
       at j = ap (λ (l : List ℕ). getD l j 0) written
 
   -- few classes
-  pub judged-few : {count : ℕ} {fs after : List ℕ} → count ≤ m → Covers m n f g count (λ k. getD fs k 0) → Copied fs 0 before (g * m) count after → RepJudged m n f g from before count after
-  judged-few {count} {fs} {after} few cover copied =
+  pub judged-few : {count : ℕ} {fs after : List ℕ} → count ≤ m → count ≤ multiplicity m n f g → Covers m n f g count (λ k. getD fs k 0)
+      → Copied fs 0 before (g * m) count after → RepJudged m n f g from before count after
+  judged-few {count} {fs} {after} few exact cover copied =
       record {
         below = copied .below;
         few = λ _.
             record {
               most = few;
+              exact = exact;
               fits = le-trans few (subst (λ (k : ℕ). k ≤ m ^ size n g) first-power (pow-le-pow-right (omega arith) (size-pos n g g< some)));
               cover = covers-same m n (omega arith) f g count _ _ (λ k k<. sym (copied .copied k k< ∙ ap (λ (j : ℕ). getD fs j 0) (zero-add k))) cover;
             };

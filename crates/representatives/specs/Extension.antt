@@ -1,13 +1,7 @@
 -- Assignments that cover a group, from those recorded for a group inside it.
 -- Assumes nothing.
-use Prim.Native.Nat.{ℕ, _+_, _-_, _*_, _^_, _≤_, _<_}
-use mathlib.Core.Path.{_≡_, sym, ap, _∙_}
-use mathlib.Core.Bool.{true}
-use mathlib.Core.List.{List}
-use native.Mathlib.Nat.{zero-add, le-trans, mul-le-mul-right, pow-le-pow-right}
-use native.Mathlib.Omega.{arith}
-use lib.ListN.{length, getD}
-use lib.Pow.{pow-add}
+use Rattle.laws.specs.Prelude.{ℕ, _<_, _≤_, _+_, _-_, _^_, _*_, _≡_, _∙_, sym, ap, true, List, zero-add, mul-le-mul-right, le-trans, pow-le-pow-right}
+use Rattle.laws.specs.Prelude.{arith, length, getD, pow-add}
 use Rattle.rules.specs.Groups.Groups.{size, part}
 use Rattle.rules.specs.Groups.Marks.{inside}
 use Rattle.trees.specs.Groups.Members.{rest-apart, size-join, size-le}
@@ -44,14 +38,20 @@ module _ {m n : ℕ} {weights counts kept : List ℕ} {from to : ℕ} {out : Lis
   pub covering-fits : getD counts from 0 * m ^ size n (to - from) ≤ length out
   covering-fits =
       le-trans (mul-le-mul-right (m ^ size n (to - from)) (asked .fits))
-      (omega (arith, sym (pow-add m (size n from) (size n (to - from))) ∙ ap (λ (k : ℕ). m ^ k) sizes, pow-le-pow-right (asked .levels) (size-le n to), asked .room))
+      (omega (
+        arith,
+        sym (pow-add m (size n from) (size n (to - from))) ∙ ap (λ (k : ℕ). m ^ k) sizes,
+        pow-le-pow-right (asked .levels) (size-le n to),
+        asked .room,
+      ))
     where
       whole : from + (to - from) ≡ to
       whole = omega (arith, asked .part-le)
 
       sizes : size n from + size n (to - from) ≡ size n to
       sizes =
-          sym (size-join n from (to - from) (omega (arith, asked .part-le, asked .group)) (omega (arith, asked .group)) (rest-apart n from to (omega (arith, asked .part-le, asked .group)) (asked .group) (asked .part-of)))
+          sym (size-join n from (to - from) (omega (arith, asked .part-le, asked .group)) (omega (arith, asked .group))
+          (rest-apart n from to (omega (arith, asked .part-le, asked .group)) (asked .group) (asked .part-of)))
           ∙ ap (size n) whole
 
   -- .. so there is room for those that are recorded

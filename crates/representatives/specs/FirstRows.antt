@@ -1,8 +1,6 @@
 -- What the search for the first of each class among rows requires.
 -- Assumes nothing.
-use Prim.Native.Nat.{ℕ, _<_}
-use mathlib.Core.List.{List}
-use lib.ListN.{length, getD}
+use Rattle.laws.specs.Prelude.{ℕ, _<_, List, length, getD}
 use Rattle.classes.specs.Within.{Within}
 
 -- the requirements: some rows and some columns, inside the cells, and room for the first of m + 1 classes

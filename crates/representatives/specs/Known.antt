@@ -1,15 +1,9 @@
 -- What is recorded for each group, m places each. With few classes: their number, and assignments that cover the group. With too many: the number 0,
 -- and in the first two places the inputs at which its witness columns agree, and a group inside it with few classes.
 -- Assumes nothing.
-use Prim.Native.Nat.{ℕ, _+_, _*_, _^_, _≤_, _<_}
-use mathlib.Core.Path.{_≡_, sym, _∙_, subst, subst⁻¹}
-use mathlib.Core.List.{List}
-use native.Mathlib.Nat.{le-trans, suc-mul, mul-le-mul-right}
-use native.Mathlib.Decide.{ℕ-discrete, decLt}
-use native.Mathlib.Omega.{arith}
+use Rattle.laws.specs.Prelude.{ℕ, _<_, _≤_, _+_, _^_, _*_, _≡_, _∙_, sym, subst, subst⁻¹, List, mul-le-mul-right, suc-mul, le-trans, decLt, ℕ-discrete}
+use Rattle.laws.specs.Prelude.{arith, length, getD, set, getD-set-same, getD-set-other}
 use lib.Bits.{and-le-r}
-use lib.ListN.{length, getD, set}
-use lib.Seq.{getD-set-same, getD-set-other}
 use Rattle.rules.specs.Groups.Groups.{size, multiplicity}
 use Rattle.trees.specs.Groups.Covers.{Covers, covers-same, covers-few}
 use Rattle.trees.specs.Groups.Told.{Told, told-many}
@@ -19,10 +13,11 @@ use Rattle.radix.specs.Parts.{PartOf}
 pub places-before : (m h g : ℕ) → h < g → h * m + m ≤ g * m
 places-before m h g h< = omega (arith, mul-le-mul-right m h<, suc-mul h m)
 
--- few classes: `count` assignments that cover the group
+-- few classes: `count` assignments that cover the group, one for each class
 pub record RepFew (m n : ℕ) (f : ℕ → ℕ) (kept : List ℕ) (h count : ℕ) : Type 0 where
   pub most : count ≤ m
   pub fits : count ≤ m ^ size n h
+  pub exact : count ≤ multiplicity m n f h
   pub cover : Covers m n f h count (λ k. getD kept (h * m + k) 0)
 
 -- a group with few classes inside one with too many
@@ -61,7 +56,8 @@ found-most {m} {count} found = go (decLt 0 count)
 
 -- what is known stays known when the places of later groups are written
 module _ {m n : ℕ} {f : ℕ → ℕ} {counts before : List ℕ} {h : ℕ} (levels : 1 < m) (known : Known m n f counts before h) where
-  pub known-same : {more after : List ℕ} → ((j : ℕ) → j < h * m + m → getD after j 0 ≡ getD before j 0) → ((j : ℕ) → j ≤ h → getD more j 0 ≡ getD counts j 0) → Known m n f more after h
+  pub known-same : {more after : List ℕ} → ((j : ℕ) → j < h * m + m → getD after j 0 ≡ getD before j 0) → ((j : ℕ) → j ≤ h → getD more j 0 ≡ getD counts j 0)
+      → Known m n f more after h
   known-same {more} {after} same counted =
       record {
         few = λ some.
@@ -70,6 +66,7 @@ module _ {m n : ℕ} {f : ℕ → ℕ} {counts before : List ℕ} {h : ℕ} (lev
             (record {
               most = old .most;
               fits = old .fits;
+              exact = old .exact;
               cover = covers-same m n (omega arith) f h (getD counts h 0) _ _ (λ k k<. sym (same (h * m + k) (omega (arith, old .most)))) (old .cover);
             });
         many = λ none. subst⁻¹ (λ (s : ℕ). Told m n f h s (m + 1)) (same (h * m) (omega arith)) (known .many (sym (counted h (omega arith)) ∙ none));
@@ -79,7 +76,8 @@ module _ {m n : ℕ} {f : ℕ → ℕ} {counts before : List ℕ} {h : ℕ} (lev
             record {
               inside = subst⁻¹ (λ (b : ℕ). PartOf b h) b-same (old .inside);
               few = subst⁻¹ (λ (b : ℕ). 0 < getD more b 0) b-same
-                  (subst⁻¹ (λ (k : ℕ). 0 < k) (counted (getD before (h * m + 1) 0) (omega (arith, old .inside, and-le-r (getD before (h * m + 1) 0) h))) (old .few));
+                  (subst⁻¹ (λ (k : ℕ). 0 < k) (counted (getD before (h * m + 1) 0) (omega (arith, old .inside, and-le-r (getD before (h * m + 1) 0) h)))
+                  (old .few));
             };
       }
 

@@ -1,15 +1,8 @@
 -- The inputs from one on have the smallest weights, so their assignments are the numbers below a power of m. With them, a column becomes a run.
 -- Assumes nothing.
-use Prim.Native.Nat.{ℕ, zero, suc, _+_, _-_, _*_, _/_, _%_, _^_, _≤_, _<_}
-use mathlib.Core.Path.{_≡_, refl, sym, ap, ap₂, _∙_, subst, subst⁻¹}
-use mathlib.Core.Bool.{Bool, true, false, not, cond, _&&_, and-false}
-use mathlib.Core.List.{List}
-use native.Mathlib.Nat.{le-step, le-refl, zero-mul, lt-of-lt-of-le, div-eq-of-lt, pow-zero, pow-suc, one-le-pow, mod-one, mod-lt, mod-mod, mod-eq-of-lt}
-use native.Mathlib.Decide.{decLt}
-use native.Mathlib.Omega.{arith}
-use lib.Arith.{mod-mul}
-use lib.ListN.{length, getD}
-use lib.Pow.{pow-mono, pow-pos}
+use Rattle.laws.specs.Prelude.{ℕ, _<_, _≤_, _+_, _-_, _^_, suc, _*_, zero, _%_, _/_, _≡_, _∙_, sym, ap, refl, subst, ap₂, subst⁻¹, true, false, Bool, _&&_}
+use Rattle.laws.specs.Prelude.{not, cond, and-false, List, zero-mul, pow-suc, pow-zero, mod-lt, lt-of-lt-of-le, one-le-pow, le-refl, le-step, mod-eq-of-lt}
+use Rattle.laws.specs.Prelude.{div-eq-of-lt, mod-mod, mod-one, decLt, arith, length, getD, mod-mul, pow-mono, pow-pos}
 use Rattle.rules.specs.Groups.Groups.{member, part, wholeGroup, others}
 use Rattle.trees.specs.Groups.Members.{whole-below, member-whole, member-others, others-below}
 use Rattle.rules.specs.Nets.Trees.{Apart}
@@ -72,7 +65,11 @@ module _ (m n : ℕ) (pos : 0 < m) (f : ℕ → ℕ) (s : ℕ) (low : s ≤ n) w
   last-cover =
       record {
         own = λ z z<. digits z ∙ mod-eq-of-lt z<;
-        every = λ p. (p % m ^ (n - s), mod-lt p (one-le-pow (n - s) m pos), alike-part m n pos f last p _ (digits p ∙ sym (mod-mod p (m ^ (n - s))) ∙ sym (digits (p % m ^ (n - s)))));
+        every = λ p. (
+          p % m ^ (n - s),
+          mod-lt p (one-le-pow (n - s) m pos),
+          alike-part m n pos f last p _ (digits p ∙ sym (mod-mod p (m ^ (n - s))) ∙ sym (digits (p % m ^ (n - s)))),
+        );
       }
 
   module _ (g : ℕ) (g< : g < 2 ^ s) where

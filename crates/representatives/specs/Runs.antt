@@ -1,10 +1,6 @@
 -- Two runs of a table's inks.
 -- Assumes nothing.
-use Prim.Native.Nat.{ℕ, _+_, _-_, _≤_, _<_}
-use mathlib.Core.Path.{_≡_}
-use mathlib.Core.Logic.{_≢_}
-use native.Mathlib.Decide.{decLt}
-use native.Mathlib.Omega.{arith}
+use Rattle.laws.specs.Prelude.{ℕ, _<_, _≤_, _+_, _-_, _≡_, _≢_, decLt, arith}
 
 -- the `count` inks from a on equal those from b on
 abbrev pub SameRuns : (ℕ → ℕ) → ℕ → ℕ → ℕ → Type 0

@@ -1,10 +1,6 @@
 -- A power of two, as a shift computes it.
 -- Assumes nothing.
-use Prim.Native.Nat.{ℕ, _*_, _%_, _^_, _≤_}
-use mathlib.Core.Path.{_≡_, ap, _∙_}
-use native.Mathlib.Nat.{one-mul, mod-eq-of-lt, lt-of-le-of-lt}
-use native.Mathlib.Omega.{arith}
-use lib.Pow.{pow-lt, pow-mono}
+use Rattle.laws.specs.Prelude.{ℕ, _≤_, _^_, _*_, _%_, _≡_, _∙_, ap, one-mul, lt-of-le-of-lt, mod-eq-of-lt, arith, pow-mono, pow-lt}
 use Rattle.radix.specs.Widths.{mostMembers}
 
 pub shifted : (i : ℕ) → i ≤ mostMembers → 1 * 2 ^ i % 2 ^ 64 ≡ 2 ^ i

@@ -1,16 +1,8 @@
 -- A member of a group, as a group by itself, and whether too many classes pass on to the larger group.
 -- Assumes nothing.
-use Prim.Native.Nat.{ℕ, _-_, _*_, _^_, _≤_, _<_}
-use mathlib.Core.Path.{_≡_, refl, sym, ap, _∙_}
-use mathlib.Core.Logic.{_≢_}
-use mathlib.Core.Bool.{Bool, true, false, _&&_, and-false}
-use mathlib.Core.List.{List}
-use native.Mathlib.Omega.{arith}
+use Rattle.laws.specs.Prelude.{ℕ, _<_, _≤_, _-_, _^_, _*_, _≡_, _∙_, sym, ap, refl, _≢_, true, false, Bool, _&&_, and-false, List, arith, eqb, getD}
+use Rattle.laws.specs.Prelude.{eqb-true, pow-pos}
 use lib.Bits.{bitAnd, and-le-r}
-use lib.Dec.{eqb}
-use lib.ListN.{getD}
-use lib.Pow.{pow-pos}
-use borrow.Author.Tests.{eqb-true}
 use Rattle.rules.specs.Groups.Groups.{member}
 use Rattle.rules.specs.Groups.Marks.{inside}
 use Rattle.rules.specs.Nets.Wirings.{firstInput}

@@ -1,10 +1,6 @@
 -- Assignments that cover a group, extended to a group with more members.
 -- Assumes nothing.
-use Prim.Native.Nat.{ℕ, _-_, _*_, _^_, _≤_, _<_}
-use mathlib.Core.Path.{_≡_}
-use mathlib.Core.Bool.{true}
-use mathlib.Core.List.{List}
-use lib.ListN.{length, getD}
+use Rattle.laws.specs.Prelude.{ℕ, _<_, _≤_, _-_, _^_, _*_, _≡_, true, List, length, getD}
 use Rattle.rules.specs.Groups.Groups.{size, part}
 use Rattle.rules.specs.Groups.Marks.{inside}
 use Rattle.trees.specs.Groups.Covers.{Covers}

@@ -1,15 +1,7 @@
 -- One group after the other: what a step requires and what it records.
 -- Assumes nothing.
-use Prim.Native.Nat.{ℕ, zero, suc, _+_, _*_, _^_, _≤_, _<_}
-use mathlib.Core.Path.{_≡_, refl, sym, ap, _∙_}
-use mathlib.Core.Bool.{true, false}
-use mathlib.Core.List.{List}
-use native.Mathlib.Nat.{mul-assoc, mul-comm, mul-le-mul-right, pow-suc, pow-le-pow-left}
-use native.Mathlib.Numerals.{add-one}
-use native.Mathlib.Decide.{decLt}
-use native.Mathlib.Omega.{arith}
-use lib.ListN.{length, getD}
-use lib.Pow.{pow-pos, pow-mono}
+use Rattle.laws.specs.Prelude.{ℕ, _<_, _≤_, _+_, _^_, suc, _*_, zero, _≡_, _∙_, sym, ap, refl, true, false, List, mul-le-mul-right, pow-suc, mul-comm}
+use Rattle.laws.specs.Prelude.{mul-assoc, pow-le-pow-left, add-one, decLt, arith, length, getD, pow-mono, pow-pos}
 use Rattle.rules.specs.Groups.Groups.{member, others}
 use Rattle.rules.specs.Calls.Answers.{inkIn}
 use Rattle.rules.specs.Nets.Leaves.{matters}

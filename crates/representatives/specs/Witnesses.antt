@@ -1,13 +1,6 @@
 -- Columns that distinguish rows, and the inputs at which they have the same levels as one of them.
 -- Assumes nothing.
-use Prim.Native.Nat.{ℕ, _+_, _-_, _^_, _≤_, _<_}
-use mathlib.Core.Path.{_≡_, refl, sym, _∙_, subst⁻¹}
-use mathlib.Core.Logic.{_≢_}
-use mathlib.Core.Bool.{true, false, false≢true}
-use mathlib.Core.List.{List}
-use native.Mathlib.Decide.{ℕ-discrete}
-use native.Mathlib.Omega.{arith}
-use lib.ListN.{length, getD}
+use Rattle.laws.specs.Prelude.{ℕ, _<_, _≤_, _+_, _-_, _^_, _≡_, _∙_, sym, refl, subst⁻¹, _≢_, true, false, false≢true, List, ℕ-discrete, arith, length, getD}
 use Rattle.rules.specs.Groups.Groups.{member, alikeOver}
 use Rattle.trees.specs.Groups.Members.{member-zero}
 use Rattle.trees.specs.Groups.Told.{SameAt}
@@ -56,7 +49,8 @@ fewer-on a b = record { low = omega (arith, a .low, b .low); inside = λ i i< is
 module _ {m n : ℕ} {f : ℕ → ℕ} {ys : List ℕ} {base p q : ℕ} where
   -- the levels are also the same at fewer inputs
   pub tells-fewer : {r t : ℕ} → Fewer n r t → Distinguishes m n f ys base p q r → Distinguishes m n f ys base p q t
-  tells-fewer fewer tells = record { column = tells .column; there = tells .there; same = λ i i< is. tells .same i i< (fewer .inside i i< is); differ = tells .differ }
+  tells-fewer fewer tells =
+      record { column = tells .column; there = tells .there; same = λ i i< is. tells .same i i< (fewer .inside i i< is); differ = tells .differ }
 
   -- the column `base` distinguishes the two, ..
   pub told-here : (s : ℕ) → Column ys base → f (p + base) ≢ f (q + base) → ToldOne m n f ys base p q s s
@@ -84,7 +78,8 @@ module _ {m n : ℕ} {f : ℕ → ℕ} {ys : List ℕ} {base p : ℕ} {firsts : 
   row-none s = record { fewer = fewer-none n s; tells = λ j h. absurd (omega arith) }
 
   -- one more row
-  pub row-next : {j s r t : ℕ} → ToldRow m n f ys base p firsts j s r → ToldOne m n f ys base p (getD firsts j 0) r t → ToldRow m n f ys base p firsts (j + 1) s t
+  pub row-next : {j s r t : ℕ} → ToldRow m n f ys base p firsts j s r → ToldOne m n f ys base p (getD firsts j 0) r t
+      → ToldRow m n f ys base p firsts (j + 1) s t
   row-next {j} {t} so-far one = record { fewer = fewer-on (so-far .fewer) (one .fewer); tells = λ i h. at i h (ℕ-discrete i j) }
     where
       at : (i : ℕ) → i < j + 1 → Dec (i ≡ j) → Distinguishes m n f ys base p (getD firsts i 0) t
@@ -115,7 +110,8 @@ pub record ToldFrom (m n : ℕ) (f : ℕ → ℕ) (ys firsts : List ℕ) (base k
 
 module _ {m n : ℕ} {f : ℕ → ℕ} {ys firsts : List ℕ} {base : ℕ} where
   -- one more row
-  pub from-next : {k r t : ℕ} → 0 < k → ToldFrom m n f ys firsts base k r → ToldRow m n f ys base (getD firsts k 0) firsts k r t → ToldFrom m n f ys firsts base (k - 1) t
+  pub from-next : {k r t : ℕ} → 0 < k → ToldFrom m n f ys firsts base k r → ToldRow m n f ys base (getD firsts k 0) firsts k r t
+      → ToldFrom m n f ys firsts base (k - 1) t
   from-next {k} {t} some so-far row =
       record {
         low = omega (arith, so-far .low, row .fewer .low);

@@ -1,14 +1,8 @@
 -- A step from group to group over plain lists: what the calls that count the classes of a group require, and what is found about the group.
 -- Assumes nothing.
-use Prim.Native.Nat.{ℕ, _+_, _-_, _*_, _^_, _≤_, _<_}
-use mathlib.Core.Path.{_≡_, refl, sym, ap, _∙_, subst, subst⁻¹}
-use mathlib.Core.Bool.{Bool, true, false, not}
-use mathlib.Core.List.{List}
-use native.Mathlib.Decide.{decLt}
-use native.Mathlib.Omega.{arith}
+use Rattle.laws.specs.Prelude.{ℕ, _<_, _≤_, _+_, _-_, _^_, _*_, _≡_, _∙_, sym, ap, refl, subst, subst⁻¹, true, false, Bool, not, List, decLt, arith}
+use Rattle.laws.specs.Prelude.{length, getD, take, pow-lt}
 use lib.Bits.{bitAnd, and-le-r}
-use lib.ListN.{length, getD, take}
-use lib.Pow.{pow-lt}
 use Rattle.rules.specs.Groups.Groups.{member, others}
 use Rattle.rules.specs.Groups.Marks.{inside}
 use Rattle.rules.specs.Nets.Trees.{Apart}
@@ -52,7 +46,8 @@ module _ {m n : ℕ} {f : ℕ → ℕ} {cells weights counts kept xs ys firsts :
   step-own-places = omega (arith, places-before m g (2 ^ n) (next .group), work .for-kept)
 
   -- a group with few classes below g can be extended to one that contains it
-  module _ {from to : ℕ} (from< : from < g) (free : Apart n from idle) (some : 0 < getD counts from 0) (part : inside n from to ≡ true) (low : from ≤ to) (to< : to < 2 ^ n) where
+  module _ {from to : ℕ} (from< : from < g) (free : Apart n from idle) (some : 0 < getD counts from 0) (part : inside n from to ≡ true) (low : from ≤ to)
+      (to< : to < 2 ^ n) where
     few : RepFew m n f kept from (getD counts from 0)
     few = next .known from from< free .few some
 
@@ -95,7 +90,8 @@ module _ {m n : ℕ} {f : ℕ → ℕ} {cells weights counts kept xs ys firsts :
     step-before = ap (λ (k : ℕ). k - 1 - g) (next .near .is)
 
     -- the last member comes right before that power, and the run is its weight
-    pub step-run : {end : ℕ} → ((k : ℕ) → past < 2 ^ k → end ≡ firstInput k past) → (0 < end) × (end - 1 < n) × (getD weights (end - 1) 0 ≡ m ^ (n - next .near .end))
+    pub step-run : {end : ℕ} → ((k : ℕ) → past < 2 ^ k → end ≡ firstInput k past) → (0 < end) × (end - 1 < n)
+        × (getD weights (end - 1) 0 ≡ m ^ (n - next .near .end))
     step-run {end} first =
         let is : end ≡ next .near .end =
         first (n + 1) (omega (arith, next .near .is, pow-lt {i = next .near .end} {j = n + 1} (omega (arith, next .near .low))))
@@ -150,18 +146,24 @@ module _ {m n : ℕ} {f : ℕ → ℕ} {cells weights counts kept xs ys firsts :
             (run-listed m n step-level f (next .near .end) (next .near .low) g (omega (arith, next .above, next .near .is)) (take (count - 0) out)
             (subst (λ (to : ℕ). Listed m n f to (take (count - 0) out)) step-before
             (idle-covers m n step-level f before (past - 1 - g) to< others<
-            (subst⁻¹ (λ (k : ℕ). Idle m n step-level f k (past - 1 - g)) is-before (without-idle m n step-level f (past - 1 - g) idle others< (next .all-idle))) _ _
+            (subst⁻¹ (λ (k : ℕ). Idle m n step-level f k (past - 1 - g)) is-before
+            (without-idle m n step-level f (past - 1 - g) idle others< (next .all-idle))) _ _
             (front-listed m n step-level f before out count (covered .inside-out) (covered .cover f (step-cover below< free counted is-inside low to<))))))
 
   -- what the count of g's classes gives
-  pub step-judged : {from count : ℕ} {after : List ℕ} → from < g → PartOf from g → 0 < getD counts from 0 → RepJudged m n f g from kept count after → RepStepped m n f counts kept g count after
+  pub step-judged : {from count : ℕ} {after : List ℕ} → from < g → PartOf from g → 0 < getD counts from 0 → RepJudged m n f g from kept count after
+      → RepStepped m n f counts kept g count after
   step-judged {from} {count} {after} from< part some judged =
       record {
         below = judged .below;
         found = record {
           few = judged .few;
           many = judged .many;
-          base = λ none. record { inside = subst⁻¹ (λ (b : ℕ). PartOf b g) (judged .base none) part; few = subst⁻¹ (λ (b : ℕ). 0 < getD counts b 0) (judged .base none) some };
+          base = λ none. record {
+            inside = subst⁻¹ (λ (b : ℕ). PartOf b g) (judged .base none) part;
+            few =
+                subst⁻¹ (λ (b : ℕ). 0 < getD counts b 0) (judged .base none) some;
+          };
           lower = λ none. omega (arith, judged .base none);
         };
       }

@@ -39,7 +39,8 @@ fn class_of(
     p: usize,
     hint: usize,
 ) -> usize
-    requires { ⌜ (0 < run) × (Column (columnsOf run (now heads)) hint) × (count ≤ length (now firsts)) × (Within (length (now cells)) (columnsOf run (now heads)) p)
+    requires { ⌜ (0 < run) × (Column (columnsOf run (now heads)) hint) × (count ≤ length (now firsts))
+        × (Within (length (now cells)) (columnsOf run (now heads)) p)
         × ((j : ℕ) → j < count → Within (length (now cells)) (columnsOf run (now heads)) (getD (now firsts) j 0)) ⌝ }
     ensures { λ r. ⌜ r ≡ firstPlace (alikeOver (inkIn (now (cells .entry))) (columnsOf run (now (heads .entry))) p) (take count (now (firsts .entry))) ⌝ }
 {
@@ -63,7 +64,8 @@ pub fn row_firsts(
     firsts: &mut [u16],
 ) -> usize
     requires { ⌜ RowsFit (length (now cells)) (now xs) (columnsOf run (now heads)) m (length (now firsts)) ⌝ }
-    ensures { λ r. ⌜ Front (take (m + 1) (classesOver (inkIn (now (cells .entry))) (columnsOf run (now (heads .entry))) (now (xs .entry)))) r (now (firsts .exit)) ⌝ }
+    ensures { λ r. ⌜ Front (take (m + 1) (classesOver (inkIn (now (cells .entry))) (columnsOf run (now (heads .entry))) (now (xs .entry)))) r
+        (now (firsts .exit)) ⌝ }
 {
     firsts[0] = xs[0];
     let mut count: usize = 1;

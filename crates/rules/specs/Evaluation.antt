@@ -42,5 +42,9 @@ use Rattle.rules.specs.Calls.Jobs as jobs
 use Rattle.rules.specs.Calls.Glyphs as glyphs
 
 unfoldable pub computing : Unit {0}
-unfolding lists.computing text.computing limits.computing fields.computing sheets.computing printed.computing value.computing groups.computing differences.computing marks.computing wirings.computing trees.computing filling.computing leaves.computing settled.computing layers.computing shallow.computing family.computing answers.computing reading.computing bareCells.computing openCells.computing multiplicity.computing marking.computing settling.computing shallowSettling.computing familyCalls.computing shallower.computing checking.computing tableWriting.computing programs.computing lister.computing arrivalSheet.computing arrivals.computing looseSheet.computing tidying.computing jobs.computing keeping.computing glyphs.computing
+unfolding lists.computing text.computing limits.computing fields.computing sheets.computing printed.computing value.computing groups.computing
+    differences.computing marks.computing wirings.computing trees.computing filling.computing leaves.computing settled.computing layers.computing
+    shallow.computing family.computing answers.computing reading.computing bareCells.computing openCells.computing multiplicity.computing marking.computing
+    settling.computing shallowSettling.computing familyCalls.computing shallower.computing checking.computing tableWriting.computing programs.computing
+    lister.computing arrivalSheet.computing arrivals.computing looseSheet.computing tidying.computing jobs.computing keeping.computing glyphs.computing
 computing = tt

@@ -1,9 +1,6 @@
 -- Settling and making with either choice of a net: their results, and how the calls of document 01 and of the shallow net follow from them.
 -- Assumes nothing.
-use Prim.Native.Nat.{ℕ, _-_, _^_}
-use mathlib.Core.Path.{_≡_, refl, sym, ap, _∙_}
-use mathlib.Core.List.{List}
-use lib.ListN.{take}
+use Rattle.laws.specs.Prelude.{ℕ, _-_, _^_, _≡_, _∙_, sym, ap, refl, List, take}
 use Rattle.rules.specs.Sheets.Sheets.{Table}
 use Rattle.rules.specs.Sheets.Sheets as sheets
 use Rattle.rules.specs.Calls.Answers.{Answer, accepted, onward, refused}
@@ -129,9 +126,11 @@ module _ (choice : Choice) (s cells marks output : List ℕ) where
   pub makes-turned : {number place : ℕ} → SettlingTurnedBack s cells marks number place
       → record { answer = refused number place; cells = cells; marks = marks; output = output } ≡ makesBy choice s cells marks output
   makes-turned (by-sheet e) = sym (makes-refused choice s cells marks output _ _ e)
-  makes-turned (by-room t reads short) = layered-refused (netBy choice) t cells marks output _ _ short ∙ sym (makes-accepted choice s cells marks output t reads)
+  makes-turned (by-room t reads short) =
+      layered-refused (netBy choice) t cells marks output _ _ short ∙ sym (makes-accepted choice s cells marks output t reads)
 
   pub makes-marked : (h : Header) (inks : List ℕ) → InputTaken s h inks cells marks
-      → withLayers (netLayers (netBy choice (tableIn s h inks))) (afterMarks (netBy choice) (tableIn s h inks) cells marks output) ≡ makesBy choice s cells marks output
+      → withLayers (netLayers (netBy choice (tableIn s h inks)))
+      (afterMarks (netBy choice) (tableIn s h inks) cells marks output) ≡ makesBy choice s cells marks output
   makes-marked h inks taken =
       layered-marked (netBy choice) (tableIn s h inks) cells marks output (taken .room) ∙ sym (makes-accepted choice s cells marks output _ (taken .reads))

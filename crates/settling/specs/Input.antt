@@ -1,10 +1,6 @@
 -- A table sheet as the input of a call with cells and marks: its refusals, and what is known of it once both have room.
 -- Assumes nothing.
-use Prim.Native.Nat.{ℕ, _-_, _^_, _≤_}
-use mathlib.Core.Path.{_≡_, sym, ap, _∙_}
-use mathlib.Core.List.{List}
-use native.Mathlib.Omega.{arith}
-use lib.ListN.{length, take}
+use Rattle.laws.specs.Prelude.{ℕ, _≤_, _-_, _^_, _≡_, _∙_, sym, ap, List, arith, length, take}
 use Rattle.rules.specs.Sheets.Sheets.{Table}
 use Rattle.rules.specs.Groups.Marks.{marksLength}
 use Rattle.rules.specs.Calls.Answers.{accepted, refused}

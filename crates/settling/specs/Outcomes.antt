@@ -1,10 +1,6 @@
 -- A table, given by a header's names in a sheet and its inks: what making a net from it requires, and the outcomes.
 -- Assumes nothing.
-use Prim.Native.Nat.{ℕ, _^_, _≤_, _<_}
-use mathlib.Core.Path.{_≡_, refl, sym, ap, ap₂, _∙_, subst⁻¹, subst₂}
-use mathlib.Core.Bool.{true}
-use mathlib.Core.List.{List}
-use lib.ListN.{length}
+use Rattle.laws.specs.Prelude.{ℕ, _<_, _≤_, _^_, _≡_, _∙_, sym, ap, refl, ap₂, subst⁻¹, subst₂, true, List, length}
 use Rattle.rules.specs.Limits.{sizeFits, mostSettled}
 use Rattle.rules.specs.Sheets.Printed.{printedNet}
 use Rattle.rules.specs.Sheets.SheetRules.{IsNet, NetRules}
@@ -137,7 +133,8 @@ module _ (s : List ℕ) (h : Header) (inks : List ℕ) (given : Given s h inks) 
             output = output;
           })
           ∙ sym (refused-layers _ _ _ (written cells inks) (written marks (storedMarks (marksOfTable (tableIn s h inks)))) output)
-          ∙ ap (withLayers (netLayers (netBy choice (tableIn s h inks)))) (sym (marked-16 (netBy choice) (tableIn s h inks) cells marks output (λ two. other (did .own .answer ∙ two))))
+          ∙ ap (withLayers (netLayers (netBy choice (tableIn s h inks))))
+          (sym (marked-16 (netBy choice) (tableIn s h inks) cells marks output (λ two. other (did .own .answer ∙ two))))
 
     pub given-tree : (choice : Choice) (cells cells-then output : List ℕ) → cells-then ≡ written cells inks → mark ≡ 2
         → (net : own.Net) → MadeNet choice (h .levels) (h .inputs) (inkIn inks) net → (r : Answer) (after : List ℕ)

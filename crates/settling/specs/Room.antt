@@ -1,9 +1,6 @@
 -- Room for the cells and the marks of a table, as the code checks it: by the number of inks, and the length that the marks need.
 -- Assumes nothing.
-use Prim.Native.Nat.{ℕ, _^_, _≤_, _<_}
-use mathlib.Core.Path.{_≡_, sym, _∙_, subst, subst⁻¹}
-use mathlib.Core.List.{List}
-use lib.ListN.{length}
+use Rattle.laws.specs.Prelude.{ℕ, _<_, _≤_, _^_, _≡_, _∙_, sym, subst, subst⁻¹, List, length}
 use Rattle.rules.specs.Groups.Marks.{marksLength}
 use Rattle.rules.specs.Calls.Answers.{accepted, refused}
 use Rattle.rules.specs.Calls.Settling.{roomFor}

@@ -21,6 +21,7 @@ use net_sheets::text::put::copy;
 use nets::forms::Header;
 use nets::layers;
 use wirings::choice::Choice;
+use wirings::leaves::group;
 
 // Returns the answer with the count of layers.
 fn with_layers(answer: Answer, layers: usize) -> Layered
@@ -51,13 +52,15 @@ pub fn settle_marked(
     let inputs = header.inputs;
     copy(inks, cells, 0);
     let mut own = [0u8; own::MOST_GROUPS];
-    if all_groups::mark_and_store(levels, inputs, inks, &mut own, marks) != 2 {
+    let marked = all_groups::mark_and_store(levels, inputs, inks, &mut own, marks);
+    if marked.mark != 2 {
         return Layered::Refused {
             number: 16,
             place: no_tree::no_tree_place(inputs, &own),
         };
     }
-    let net = made::made_net(choice, levels, inputs, inks, &own);
+    let leaves = group::leaves(inputs, marked.idle);
+    let net = made::made_net(choice, levels, inputs, inks, &own, leaves);
     let count = layers::layers(net);
     with_layers(output::write_sheet(s, header, net, out), count)
 }

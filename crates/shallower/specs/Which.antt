@@ -1,8 +1,6 @@
 -- What the answer of the shallower of two sheets represents, and what is returned: its address and its bytes.
 -- Assumes nothing.
-use Prim.Native.Nat.{ℕ}
-use mathlib.Core.Path.{_≡_, refl}
-use mathlib.Core.List.{List, []}
+use Rattle.laws.specs.Prelude.{ℕ, _≡_, refl, List, []}
 use denote.Ref.{RefT, now}
 use Rattle.rules.specs.Calls.Shallower as rules
 use Rattle.rules.specs.Calls.Shallower.{firstSheet, secondSheet, noSheet, shallowerCall, whichOf}

@@ -1,11 +1,7 @@
 -- The length of a table sheet.
 -- Assumes nothing.
-use Prim.Native.Nat.{ℕ, zero, suc, _+_, _*_, _≤_, _<_}
-use mathlib.Core.Path.{_≡_, refl, sym, ap, _∙_}
-use mathlib.Core.List.{List, [], _∷_}
-use native.Mathlib.Nat.{zero-mul, suc-mul}
-use native.Mathlib.Omega.{arith}
-use lib.ListN.{length, getD, length-append, length-take, length-drop}
+use Rattle.laws.specs.Prelude.{ℕ, _<_, _≤_, _+_, suc, _*_, zero, _≡_, _∙_, sym, ap, refl, List, [], _∷_, zero-mul, suc-mul, arith, length, getD}
+use Rattle.laws.specs.Prelude.{length-append, length-drop, length-take}
 use Rattle.rules.specs.Text.{space, newline, text, decimal}
 use Rattle.rules.specs.Lists.{range}
 use Rattle.rules.specs.Sheets.Sheets.{levelsAt, inkByte}
@@ -55,7 +51,8 @@ rows-length m n p (ink ∷ inks) =
 
 -- the fixed words and separators, the two decimal values, the names, and 2 n + 2 bytes for each row
 pub printed-table-length : (s : List ℕ) (h : Header) (inks : List ℕ) → length (printedTable (tableIn s h inks))
-    ≡ fixedBytes + (length (decimal (h .levels)) + length (decimal (h .inputs))) + length (spacedFrom (nameIn s h) 0 (h .inputs)) + length inks * (2 * h .inputs + 2)
+    ≡ fixedBytes + (length (decimal (h .levels)) + length (decimal (h .inputs))) + length
+    (spacedFrom (nameIn s h) 0 (h .inputs)) + length inks * (2 * h .inputs + 2)
 unfolding line text space newline
 printed-table-length s h inks =
     ap length (table-parts s h inks) ∙ simp (length-append, rows-length) (omega arith)

@@ -1,9 +1,6 @@
 -- A table sheet: what printing it requires.
 -- Assumes nothing.
-use Prim.Native.Nat.{ℕ, _≤_, _<_}
-use mathlib.Core.List.{List}
-use native.Mathlib.Omega.{arith}
-use lib.ListN.{length, getD}
+use Rattle.laws.specs.Prelude.{ℕ, _<_, _≤_, List, arith, length, getD}
 use Rattle.rules.specs.Limits.{mostLevels}
 use Rattle.laws.specs.Numbers.Sizes.{levels-fit}
 use Rattle.nets.specs.declared.forms.Header.{Header}

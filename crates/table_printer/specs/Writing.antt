@@ -1,9 +1,6 @@
 -- Table writing: the table sheet measured, then printed.
 -- Assumes nothing.
-use Prim.Native.Nat.{ℕ, _-_, _^_, _≤_, _<_}
-use mathlib.Core.Path.{_≡_, sym, _∙_, subst}
-use mathlib.Core.List.{List}
-use lib.ListN.{length, take}
+use Rattle.laws.specs.Prelude.{ℕ, _<_, _≤_, _-_, _^_, _≡_, _∙_, sym, subst, List, length, take}
 use Rattle.rules.specs.Sheets.Sheets.{Table}
 use Rattle.rules.specs.Sheets.Printed.{printedTable}
 use Rattle.rules.specs.Calls.TableWriting.{Written, writeTableCall}
@@ -24,7 +21,8 @@ use Rattle.accepted.specs.Taken.{NetTaken, names-inside, own-length, front-leng
 abbrev pub tableWrittenOf : Answer → List ℕ → Written
 tableWrittenOf r output = record { answer = answerOf r; output = output }
 
-module _ (s : List ℕ) (h : Header) (net : Net) (taken : NetTaken s h net) (count need : ℕ) (is : count ≡ h .levels ^ h .inputs) (measures : Measures h count need)
+module _ (s : List ℕ) (h : Header) (net : Net) (taken : NetTaken s h net) (count need : ℕ) (is : count ≡ h .levels ^ h .inputs)
+    (measures : Measures h count need)
     (output : List ℕ) where
   need-is : need ≡ length (printedTable (tableOfNet (netIn s h net)))
   unfolding tableOfNet
@@ -38,7 +36,8 @@ module _ (s : List ℕ) (h : Header) (net : Net) (taken : NetTaken s h net) (cou
   module _ (long : need ≤ length output) (before after : List ℕ) (all : ℕ) (did : Tabled net before after all) where
     pub output-long : length (printedTable (tableIn s h (take (count - 0) after))) ≤ length output
     output-long =
-        subst (λ (k : ℕ). k ≤ length output) (measures s (take (count - 0) after) (names-inside s h (taken .header)) (front-length s h net taken before after all count did is)) long
+        subst (λ (k : ℕ). k ≤ length output) (measures s (take (count - 0) after) (names-inside s h (taken .header))
+        (front-length s h net taken before after all count did is)) long
 
     pub table-output-written : (filled : List ℕ) (answer : ℕ) → NetWrote output (printedTable (tableIn s h (take (count - 0) after))) filled answer
         → record { answer = accepted answer; output = filled } ≡ writeTableCall s output

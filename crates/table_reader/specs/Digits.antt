@@ -1,13 +1,7 @@
 -- A field of one digit below m.
 -- Assumes nothing.
-use Prim.Native.Nat.{ℕ, _+_, _-_, _≤_, _<_}
-use mathlib.Core.Path.{_≡_, refl, sym, ap, _∙_}
-use mathlib.Core.Bool.{and-false, and-eq-true-iff}
-use mathlib.Core.List.{List, [], _∷_}
-use native.Mathlib.Omega.{arith}
-use lib.ListN.{length, getD}
-use lib.Dec.{leb, ltb}
-use borrow.Author.Tests.{le-leb, lt-leb, lt-ltb, le-ltb, leb-true, ltb-true}
+use Rattle.laws.specs.Prelude.{ℕ, _<_, _≤_, _+_, _-_, _≡_, _∙_, sym, ap, refl, and-eq-true-iff, and-false, List, [], _∷_, arith, ltb, leb, length, getD}
+use Rattle.laws.specs.Prelude.{lt-ltb, le-ltb, le-leb, lt-leb, leb-true, ltb-true}
 use Rattle.rules.specs.Text.{isDigit, zeroByte}
 use Rattle.rules.specs.Sheets.Fields.{Judge, good, bad, judged}
 use Rattle.fields.specs.Taken.{field-judged-good}

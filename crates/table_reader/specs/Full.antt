@@ -1,11 +1,6 @@
 -- The result of reading a table sheet where a full table is needed (document 02, K13).
 -- Assumes nothing.
-use Prim.Native.Nat.{ℕ, suc, _-_, _^_, _≤_, _<_}
-use mathlib.Core.Path.{_≡_, sym, ap, _∙_, subst⁻¹}
-use mathlib.Core.List.{List}
-use native.Mathlib.Nat.{sub-zero}
-use native.Mathlib.Omega.{arith}
-use lib.ListN.{length, getD, take}
+use Rattle.laws.specs.Prelude.{ℕ, _<_, _≤_, _-_, _^_, suc, _≡_, _∙_, sym, ap, subst⁻¹, List, sub-zero, arith, length, getD, take}
 use Rattle.rules.specs.Calls.Answers as answers
 use Rattle.rules.specs.Sheets.Reading.{readTable}
 use Rattle.rules.specs.Calls.OpenCells.{full, fullTable, readFull}
@@ -71,6 +66,7 @@ module _ (s cells : List ℕ) (r : TableRead) (reads : TableReads s cells r) whe
         omega (arith, below-at (suc m) (take (count - 0) cells) inks p h)
 
     -- .. at the front of their buffer
-    pub full-judged : (o : Outcome) (count : ℕ) → count ≡ r .header .levels ^ r .header .inputs → outcomeAs tt o ≡ full (r .header .levels) (take (count - 0) cells)
+    pub full-judged : (o : Outcome) (count : ℕ) → count ≡ r .header .levels ^ r .header .inputs
+        → outcomeAs tt o ≡ full (r .header .levels) (take (count - 0) cells)
         → FullReads s cells (record { outcome = o; header = r .header })
     full-judged o count all is = all-judged o (is ∙ ap (λ (k : ℕ). full (r .header .levels) (take k cells)) (sub-zero count ∙ all))

@@ -1,9 +1,6 @@
 -- The first three lines of a table sheet, strict or loose, and what follows them: the rows, and the end.
 -- Assumes nothing.
-use Prim.Native.Nat.{ℕ}
-use mathlib.Core.Path.{_≡_, refl, ap, _∙_}
-use mathlib.Core.List.{List}
-use lib.ListN.{drop}
+use Rattle.laws.specs.Prelude.{ℕ, _≡_, _∙_, ap, refl, List, drop}
 use Rattle.rules.specs.Text.{space, newline, text, newlineByte}
 use Rattle.rules.specs.Sheets.Fields.{Reader, then, _>>=_, give, Layout, fieldIn, theWord, closed}
 use Rattle.rules.specs.Sheets.Reading.{answered}

@@ -1,10 +1,6 @@
 -- An ink field: the sign of an open cell, or a digit.
 -- Assumes nothing.
-use Prim.Native.Nat.{ℕ, _+_, _≤_, _<_}
-use mathlib.Core.Path.{_≡_, refl, sym, ap, _∙_}
-use mathlib.Core.Bool.{Bool, true, false, false≢true}
-use mathlib.Core.List.{List, [], _∷_}
-use native.Mathlib.Omega.{arith}
+use Rattle.laws.specs.Prelude.{ℕ, _<_, _≤_, _+_, _≡_, _∙_, sym, ap, refl, true, false, Bool, false≢true, List, [], _∷_, arith}
 use Rattle.rules.specs.Lists.{same}
 use Rattle.rules.specs.Text.{zeroByte, openByte}
 use Rattle.rules.specs.Sheets.Fields.{read, good, field, run}

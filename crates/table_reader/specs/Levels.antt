@@ -1,11 +1,6 @@
 -- A level field, by its byte.
 -- Assumes nothing.
-use Prim.Native.Nat.{ℕ, _+_}
-use mathlib.Core.Path.{_≡_, refl, sym}
-use mathlib.Core.Bool.{Bool, true, false}
-use mathlib.Core.List.{List, [], _∷_}
-use lib.ListN.{length, getD}
-use lib.Dec.{eqb}
+use Rattle.laws.specs.Prelude.{ℕ, _+_, _≡_, sym, refl, true, false, Bool, List, [], _∷_, eqb, length, getD}
 use Rattle.rules.specs.Lists.{same}
 use Rattle.rules.specs.Text.{digitByte, zeroByte}
 use Rattle.rules.specs.Sheets.Fields.{good}
@@ -15,7 +10,8 @@ use Rattle.laws.specs.Lists.Places.{one-byte}
 
 same-one : (w : List ℕ) (x : ℕ) → length w ≡ 1 → same w (x ∷ []) ≡ eqb (getD w 0 0) x
 unfolding same
-same-one w x e = rw (one-byte w e) (elim (eqb (getD w 0 0) x) as (λ t. elim t as (λ _. Bool) [ true ↦ true | false ↦ false ] ≡ t) [ true ↦ refl | false ↦ refl ])
+same-one w x e =
+    rw (one-byte w e) (elim (eqb (getD w 0 0) x) as (λ t. elim t as (λ _. Bool) [ true ↦ true | false ↦ false ] ≡ t) [ true ↦ refl | false ↦ refl ])
 
 module _ (due : ℕ) (w : List ℕ) where
   pub level-long : (length w ≡ 1 → ⊥) → false ≡ same w (digitByte due ∷ [])

@@ -1,12 +1,7 @@
 -- A row, field by field.
 -- Assumes nothing.
-use Prim.Native.Nat.{ℕ, _+_, _≤_, _<_}
-use mathlib.Core.Path.{_≡_, refl, sym, ap, _∙_}
-use mathlib.Core.List.{List}
-use native.Mathlib.Omega.{arith}
-use native.Mathlib.Numerals.{add-one}
-use lib.ListN.{length, take, drop, getD, drop-of-length-le}
-use lib.Seq.{drop-cons, getD-take, length-take-le}
+use Rattle.laws.specs.Prelude.{ℕ, _<_, _≤_, _+_, _≡_, _∙_, sym, ap, refl, List, add-one, arith, length, getD, take, drop, drop-of-length-le}
+use Rattle.laws.specs.Prelude.{length-take-le, getD-take, drop-cons}
 use Rattle.rules.specs.Text.{space, newline, spaceByte, newlineByte}
 use Rattle.rules.specs.Sheets.Fields.{Read, read, turnedBack, Reader, then, _>>=_, field}
 use Rattle.rules.specs.Sheets.Sheets.{levelField, inkField, levelFields}

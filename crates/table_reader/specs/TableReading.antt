@@ -1,9 +1,6 @@
 -- The result of reading a table sheet, in the definitions.
 -- Assumes nothing.
-use Prim.Native.Nat.{ℕ, suc, _^_}
-use mathlib.Core.Path.{_≡_}
-use mathlib.Core.List.{List, []}
-use lib.ListN.{take}
+use Rattle.laws.specs.Prelude.{ℕ, _^_, suc, _≡_, List, [], take}
 use Rattle.rules.specs.Sheets.Fields.{Reader, strict}
 use Rattle.rules.specs.Sheets.Sheets as sheets
 use Rattle.rules.specs.Sheets.Sheets.{Table, rowLines, tableSheet}

@@ -1,17 +1,7 @@
 -- Counts as the code computes and records them, for groups within the limits. They are the same for every number of inputs that has the group.
 -- Assumes nothing.
-use Prim.Native.Nat.{ℕ, _+_, _-_, _*_, _^_, _≤_, _<_}
-use mathlib.Core.Path.{_≡_, refl, ap₂, _∙_}
-use mathlib.Core.Logic.{_⊎_, inl, inr, ⊎-elim, _≢_}
-use mathlib.Core.Bool.{Bool, true, false, _&&_, and-eq-true-iff}
-use mathlib.Core.List.{List}
-use native.Mathlib.Nat.{mul-zero, zero-mul}
-use native.Mathlib.Decide.{ℕ-discrete}
-use native.Mathlib.Omega.{arith}
-use lib.Dec.{eqb}
-use lib.ListN.{length, getD, set}
-use lib.Seq.{getD-set-same, getD-set-other}
-use borrow.Author.Tests.{eqb-true, eqb-false}
+use Rattle.laws.specs.Prelude.{ℕ, _<_, _≤_, _+_, _-_, _^_, _*_, _≡_, _∙_, refl, ap₂, _≢_, ⊎-elim, _⊎_, inl, inr, true, false, Bool, _&&_, and-eq-true-iff}
+use Rattle.laws.specs.Prelude.{List, zero-mul, mul-zero, ℕ-discrete, arith, eqb, length, getD, set, getD-set-same, getD-set-other, eqb-true, eqb-false}
 use Rattle.rules.specs.Limits.{mostInputs}
 use Rattle.rules.specs.Groups.Groups.{member, size}
 use Rattle.rules.specs.Groups.Marks.{inside, markIn}

@@ -1,11 +1,6 @@
 -- The wiring of a number among a group's trees, as the code finds it: the split that the number falls in, then a number for each part.
 -- Assumes nothing.
-use Prim.Native.Nat.{ℕ, zero, suc, _+_, _-_, _/_, _%_, _^_, _≤_, _<_}
-use mathlib.Core.Path.{_≡_, sym, ap, ap₂, _∙_, subst⁻¹}
-use mathlib.Core.Logic.{_≢_}
-use mathlib.Core.List.{List, _++_}
-use native.Mathlib.Nat.{zero-add}
-use native.Mathlib.Omega.{arith}
+use Rattle.laws.specs.Prelude.{ℕ, _<_, _≤_, _+_, _-_, _^_, suc, zero, _%_, _/_, _≡_, _∙_, sym, ap, ap₂, subst⁻¹, _≢_, List, _++_, zero-add, arith}
 use Rattle.rules.specs.Limits.{mostInputs}
 use Rattle.rules.specs.Groups.Groups.{size}
 use Rattle.rules.specs.Nets.Wirings.{gate, Link, firstInput, linksOf}

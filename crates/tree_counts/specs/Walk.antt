@@ -1,14 +1,9 @@
 -- The splits of a group in the order of the code: by the parts of its other members, each with the first-listed input. Which splits remain, the sum
 -- of their counts, and which of them a number falls in.
 -- Assumes nothing.
-use Prim.Native.Nat.{ℕ, _+_, _-_, _^_, _≤_, _<_}
-use mathlib.Core.Path.{_≡_, refl, sym, ap, _∙_}
-use mathlib.Core.Bool.{Bool, true, false, cond}
-use mathlib.Core.List.{List, [], _∷_, map}
-use native.Mathlib.Nat.{zero-add, sub-zero}
-use native.Mathlib.Omega.{arith}
+use Rattle.laws.specs.Prelude.{ℕ, _<_, _≤_, _+_, _-_, _^_, _≡_, _∙_, sym, ap, refl, true, false, Bool, cond, List, [], _∷_, map, zero-add, sub-zero, arith}
+use Rattle.laws.specs.Prelude.{pow-pos}
 use lib.Bits.{and-self}
-use lib.Pow.{pow-pos}
 use Rattle.rules.specs.Lists.{range, those, total}
 use Rattle.rules.specs.Nets.Wirings.{firstInput}
 use Rattle.rules.specs.Nets.Family.{splitsOf, Numbered, numberedAt}

@@ -1,13 +1,7 @@
 -- The loops over a group's splits, over plain numbers: the splits before the part `part` of the members other than the first-listed are done.
 -- Assumes nothing.
-use Prim.Native.Nat.{ℕ, _+_, _-_, _^_, _≤_, _<_}
-use mathlib.Core.Path.{_≡_, refl, sym, ap, _∙_}
-use mathlib.Core.Logic.{_≢_}
-use mathlib.Core.List.{List}
-use native.Mathlib.Nat.{zero-add}
-use native.Mathlib.Omega.{arith}
+use Rattle.laws.specs.Prelude.{ℕ, _<_, _≤_, _+_, _-_, _^_, _≡_, _∙_, sym, ap, refl, _≢_, List, zero-add, arith, length}
 use lib.Bits.{and-self}
-use lib.ListN.{length}
 use Rattle.rules.specs.Limits.{mostInputs}
 use Rattle.rules.specs.Groups.Groups.{size}
 use Rattle.rules.specs.Groups.Marks.{markIn}

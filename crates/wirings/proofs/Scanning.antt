@@ -1,13 +1,8 @@
 -- The loop of `fewest_of` over plain numbers: the parts of g that hold its first-listed input are done up to the part `part` of the others.
 -- It ends at a least that is at most a floor of all splits.
 -- Assumes nothing.
-use Prim.Native.Nat.{ℕ, _+_, _-_, _^_, _≤_, _<_}
-use mathlib.Core.Path.{_≡_, refl, sym, _∙_}
-use mathlib.Core.Logic.{_⊎_, inl, inr, ⊎-elim}
-use mathlib.Core.Bool.{true, and-eq-true-iff}
-use mathlib.Core.List.{List}
-use native.Mathlib.Decide.{ℕ-discrete}
-use native.Mathlib.Omega.{arith, ne-cases}
+use Rattle.laws.specs.Prelude.{ℕ, _<_, _≤_, _+_, _-_, _^_, _≡_, _∙_, sym, refl, ⊎-elim, _⊎_, inl, inr, true, and-eq-true-iff, List, ℕ-discrete, arith}
+use Rattle.laws.specs.Prelude.{ne-cases}
 use lib.Bits.{and-self}
 use Rattle.rules.specs.Groups.Marks.{partsAt}
 use Rattle.rules.specs.Nets.Wirings.{firstInput}

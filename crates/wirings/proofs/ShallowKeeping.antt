@@ -1,11 +1,6 @@
 -- What the search for the shallowest split looks for: the A that keeps its group shallowest.
 -- Assumes nothing.
-use Prim.Native.Nat.{ℕ}
-use mathlib.Core.Path.{ap}
-use mathlib.Core.Bool.{Bool, _&&_, and-eq-true-iff}
-use mathlib.Core.List.{List}
-use lib.Dec.{eqb}
-use lib.ListN.{getD}
+use Rattle.laws.specs.Prelude.{ℕ, ap, Bool, _&&_, and-eq-true-iff, List, eqb, getD}
 use Rattle.rules.specs.Nets.Shallow.{splitLayers}
 use Rattle.trees.specs.Trees.MarkTwo.{isA}
 use Rattle.marks.specs.FirstParts.{bothTwo, Looked, settled-looked}

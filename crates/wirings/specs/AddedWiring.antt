@@ -1,9 +1,6 @@
 -- The links of any wiring added to others: those of its left side, those of its right side, its own.
 -- Assumes nothing.
-use Prim.Native.Nat.{ℕ, _+_}
-use mathlib.Core.Path.{_≡_, refl, sym, ap, ap₂, _∙_}
-use mathlib.Core.List.{List, [], _∷_, _++_, append-nil, append-assoc}
-use native.Mathlib.Omega.{arith}
+use Rattle.laws.specs.Prelude.{ℕ, _+_, _≡_, _∙_, sym, ap, refl, ap₂, List, [], _∷_, _++_, append-assoc, append-nil, arith}
 use Rattle.rules.specs.Nets.Wirings.{input, gate, Link, gatesIn, referenceTo, linksOf}
 use Rattle.rules.specs.Nets.Wirings as rules
 use Rattle.wirings.specs.declared.forms.Wiring.{Wiring}

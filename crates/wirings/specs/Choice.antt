@@ -1,9 +1,6 @@
 -- Which part of a group a choice takes as A, and what the choice needs.
 -- Assumes nothing.
-use Prim.Native.Nat.{ℕ, _≤_, _<_}
-use mathlib.Core.List.{List}
-use native.Mathlib.Nat.{lt-of-le-of-lt}
-use lib.ListN.{length}
+use Rattle.laws.specs.Prelude.{ℕ, _<_, _≤_, List, lt-of-le-of-lt, length}
 use Rattle.rules.specs.Nets.Settled.{splitOf}
 use Rattle.rules.specs.Nets.Shallow.{shallowSplit}
 use Rattle.wirings.specs.declared.choice.Choice.{Choice}

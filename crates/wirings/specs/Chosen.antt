@@ -1,12 +1,6 @@
 -- What a choice of parts requires of the marks, and what it gives.
 -- Assumes nothing.
-use Prim.Native.Nat.{ℕ, _+_, _-_, _^_, _≤_, _<_}
-use mathlib.Core.Path.{_≡_, ap, ap₂, _∙_, subst, subst⁻¹}
-use mathlib.Core.Logic.{_≢_}
-use mathlib.Core.Bool.{true}
-use mathlib.Core.List.{List, _++_}
-use native.Mathlib.Nat.{zero-add}
-use lib.ListN.{length}
+use Rattle.laws.specs.Prelude.{ℕ, _<_, _≤_, _+_, _-_, _^_, _≡_, _∙_, ap, subst, ap₂, subst⁻¹, _≢_, true, List, _++_, zero-add, length}
 use Rattle.rules.specs.Limits.{mostInputs}
 use Rattle.rules.specs.Groups.Groups.{size}
 use Rattle.rules.specs.Groups.Marks.{inside, markIn}

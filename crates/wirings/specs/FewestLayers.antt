@@ -1,21 +1,13 @@
 -- The fewest layers of the groups of mark 2 as the code finds them. It tries only the parts that hold a group's first-listed input, because
 -- exchanging a part and the rest gives the same layers. It reads only the groups of mark 2, because no other group is a part.
 -- Assumes nothing.
-use Prim.Native.Nat.{ℕ, zero, suc, _+_, _-_, _^_, _≤_, _<_}
-use mathlib.Core.Path.{_≡_, refl, sym, ap, _∙_}
-use mathlib.Core.Logic.{_⊎_, ⊎-elim}
-use mathlib.Core.Bool.{Bool, true, false, _&&_, and-eq-true-iff}
-use mathlib.Core.List.{List, [], _∷_, _++_, map, List·Memᴰ, List·Memᴰ·not-nil, Memᴰ·map, Memᴰ·of-map}
-use native.Mathlib.Nat.{le-antisymm, le-trans, le-of-eq}
-use native.Mathlib.Decide.{ℕ-discrete}
-use native.Mathlib.Omega.{arith}
-use lib.Dec.{eqb}
-use borrow.Author.Tests.{eq-eqb, ne-eqb}
-use lib.ListN.{length, getD, set, length-map}
-use lib.Seq.{getD-set-same, getD-set-other}
+use Rattle.laws.specs.Prelude.{ℕ, _<_, _≤_, _+_, _-_, _^_, suc, zero, _≡_, _∙_, sym, ap, refl, ⊎-elim, _⊎_, true, false, Bool, _&&_, and-eq-true-iff, List}
+use Rattle.laws.specs.Prelude.{[], _∷_, _++_, map, List·Memᴰ, List·Memᴰ·not-nil, Memᴰ·of-map, Memᴰ·map, le-trans, le-of-eq, le-antisymm, decLt, ℕ-discrete}
+use Rattle.laws.specs.Prelude.{arith, eqb, length, getD, set, length-map, getD-set-same, getD-set-other, eq-eqb, ne-eqb}
+use lib.Bits.{and-le-r}
 use Rattle.rules.specs.Lists.{range, those}
 use Rattle.rules.specs.Groups.Groups.{member}
-use Rattle.rules.specs.Groups.Marks.{markIn, partsAt}
+use Rattle.rules.specs.Groups.Marks.{inside, markIn, partsAt}
 use Rattle.rules.specs.Nets.Wirings.{firstInput}
 use Rattle.rules.specs.Nets.Shallow.{least, splitLayers, fewestOf, fewestBelow, fewestLayers, shallowSplit}
 use Rattle.laws.specs.Lists.Ranges.{mem-range, range-mem}
@@ -25,9 +17,10 @@ use Rattle.laws.specs.Lists.Listed.{mem-those, those-pass, map-listed, those-li
 use Rattle.laws.specs.Lists.Extremes.{least-bounds, least-listed}
 use Rattle.trees.specs.Groups.Members.{first-member, size-le}
 use Rattle.trees.specs.Groups.MarkRule.{parts-at-holds, parts-of, parts-found, parts-swap}
-use Rattle.trees.specs.Trees.MarkTwo.{isA, in-other-part}
+use Rattle.trees.specs.Trees.MarkTwo.{isA, in-other-part, rest-inside, inside-trans}
 use Rattle.trees.specs.Shallow.Shallow.{shallowPart}
 use Rattle.trees.specs.Shallow.FewestLayers.{fewest, fewest-rule, fewest-small}
+use Rattle.radix.specs.Parts.{PartOf, inside-part, part-inside}
 use Rattle.marks.specs.FirstParts.{bothTwo}
 
 -- ---- one group
@@ -141,28 +134,55 @@ module _ (n : ℕ) (marks layers : List ℕ) (g : ℕ) where
       go (yes two) = omega (arith, layers-two two)
       go (no other) = omega (arith, layers-other other)
 
--- ---- all groups
+-- ---- the groups inside some leaves
 
--- the entries of the groups below g that have mark 2 are their fewest layers
-abbrev pub WiringKnown : ℕ → List ℕ → ℕ → List ℕ → Type 0
-WiringKnown n marks g layers = (h : ℕ) → h < g → markIn marks h ≡ 2 → getD layers h 0 ≡ fewest n marks h
+-- the entries of those below g that have mark 2 are their fewest layers
+abbrev pub WiringKnown : ℕ → List ℕ → ℕ → ℕ → List ℕ → Type 0
+WiringKnown n marks leaves g layers = (h : ℕ) → h < g → PartOf h leaves → markIn marks h ≡ 2 → getD layers h 0 ≡ fewest n marks h
+
+-- the next of them after g, or past all
+pub record PartAfter (leaves g next : ℕ) : Type 0 where
+  pub above : g < next
+  pub end : next ≤ leaves + 1
+  pub part : next ≤ leaves → PartOf next leaves
+  pub least : (u : ℕ) → g < u → PartOf u leaves → next ≤ u
+
+-- a part before the next one, other than g, is below g
+pub passed-part : {leaves g next h : ℕ} → (h ≡ g → ⊥) → PartAfter leaves g next → h < next → PartOf h leaves → h < g
+passed-part {g = g} {h = h} other after h< part = go (decLt g h)
+  where
+    go : Dec (g < h) → h < g
+    go (yes more) = absurd (omega (arith, after .least h more part))
+    go (no less) = omega (arith, other)
+
+-- both parts of a split are among them
+pub parts-inside : (n : ℕ) (marks : List ℕ) (g a leaves : ℕ) → g < 2 ^ n → a < g → PartOf g leaves → partsAt n marks g a ≡ true
+    → PartOf a leaves × PartOf (g - a) leaves
+parts-inside n marks g a leaves g< less g-part h =
+    let a-in = parts-at-holds n marks g a h .0 in
+    (within a (omega arith) a-in, within (g - a) (omega arith) (rest-inside n a g (omega arith) g< a-in))
+  where
+    within : (b : ℕ) → b < 2 ^ n → inside n b g ≡ true → PartOf b leaves
+    within b b< b-in = inside-part n b leaves b< (inside-trans n b g leaves b-in (part-inside n g leaves g-part))
 
 module _ (n : ℕ) (marks : List ℕ) where
-  -- the rule reads only the entries of groups of mark 2
-  rule-agree : (xs ys : List ℕ) (g : ℕ) → ((a : ℕ) → a < g → markIn marks a ≡ 2 → getD xs a 0 ≡ getD ys a 0)
-      → fewestOf n marks xs g ≡ fewestOf n marks ys g
+  -- the rule reads only the entries of parts of mark 2
+  rule-agree : (xs ys : List ℕ) (g leaves : ℕ) → g < 2 ^ n → PartOf g leaves
+      → ((a : ℕ) → a < g → PartOf a leaves → markIn marks a ≡ 2 → getD xs a 0 ≡ getD ys a 0) → fewestOf n marks xs g ≡ fewestOf n marks ys g
   unfolding fewestOf splitLayers
-  rule-agree xs ys g e =
+  rule-agree xs ys g leaves g< g-part e =
       ap least (map-listed (splitLayers xs g) (splitLayers ys g) (those (partsAt n marks g) (range 1 (g - 1)))
       λ a is.
       let between = range-mem 1 (g - 1) a (those-mem (partsAt n marks g) (range 1 (g - 1)) a is) in
-      let twos = parts-at-holds n marks g a (those-pass (partsAt n marks g) a (range 1 (g - 1)) is) in
-      rw (e a (omega arith) (twos .1), e (g - a) (omega arith) (twos .2)))
+      let holds = those-pass (partsAt n marks g) a (range 1 (g - 1)) is in
+      let twos = parts-at-holds n marks g a holds in
+      let parts = parts-inside n marks g a leaves g< (omega arith) g-part holds in
+      rw (e a (omega arith) (parts .0) (twos .1), e (g - a) (omega arith) (parts .1) (twos .2)))
 
-  module _ (g : ℕ) (layers : List ℕ) (known : WiringKnown n marks g layers) (g< : g < 2 ^ n) where
+  module _ (leaves g : ℕ) (layers : List ℕ) (known : WiringKnown n marks leaves g layers) (g< : g < 2 ^ n) (g-part : PartOf g leaves) where
     -- so they give the next group's fewest layers, ..
     pub known-rule : fewestOf n marks layers g ≡ fewest n marks g
-    known-rule = rule-agree layers (fewestLayers n marks) g known ∙ sym (fewest-rule n marks g g<)
+    known-rule = rule-agree layers (fewestLayers n marks) g leaves g< g-part known ∙ sym (fewest-rule n marks g g<)
 
     -- .. which are at most the number of inputs, ..
     pub known-small : layersOf n marks layers g ≤ n
@@ -173,8 +193,9 @@ module _ (n : ℕ) (marks : List ℕ) where
         go (no some) = omega (arith, fewest-small n marks g g< (omega arith), size-le n g)
 
     -- .. and are known once they are written at its number
-    pub wiring-known-next : g < length layers → (r : ℕ) → r ≡ layersOf n marks layers g → WiringKnown n marks (g + 1) (set layers g r)
-    wiring-known-next room r is h h< two = go (ℕ-discrete h g)
+    pub wiring-known-next : g < length layers → (r : ℕ) → r ≡ layersOf n marks layers g → (next : ℕ) → PartAfter leaves g next
+        → WiringKnown n marks leaves next (set layers g r)
+    wiring-known-next room r is next after h h< part two = go (ℕ-discrete h g)
       where
         go : Dec (h ≡ g) → getD (set layers g r) h 0 ≡ fewest n marks h
         go (yes e) =
@@ -184,7 +205,7 @@ module _ (n : ℕ) (marks : List ℕ) where
             ∙ sym (layers-two n marks layers g (ap (markIn marks) (sym e) ∙ two))
             ∙ known-rule
             ∙ ap (fewest n marks) (sym e)
-        go (no other) = getD-set-other layers g h r 0 other ∙ known h (omega arith) two
+        go (no other) = getD-set-other layers g h r 0 other ∙ known h (passed-part other after h< part) part two
 
 -- ---- marks that agree on every group
 
@@ -207,19 +228,21 @@ module _ (n : ℕ) (xs ys : List ℕ) (same : (g : ℕ) → g < 2 ^ n → markIn
   unfolding fewestLayers
   layers-agree = below-agree (2 ^ n) (omega arith)
 
-  -- .. and the same A in every group of mark 2
-  pub shallow-agree : (layers : List ℕ) → WiringKnown n xs (2 ^ n) layers → (g : ℕ) → g < 2 ^ n → markIn xs g ≡ 2
+  -- .. and the same A in every group of mark 2 inside the leaves
+  pub shallow-agree : (layers : List ℕ) (leaves : ℕ) → WiringKnown n xs leaves (leaves + 1) layers → (g : ℕ) → g < 2 ^ n → PartOf g leaves → markIn xs g ≡ 2
       → shallowSplit n xs layers g ≡ shallowPart n ys g
   unfolding shallowSplit splitLayers
-  shallow-agree layers known g g< two = ap (λ (k : ℕ). 1 + k) (place-agree _ _ 1 (g - 1) (λ a low high. go a (omega arith) (partsAt n xs g a) refl))
+  shallow-agree layers leaves known g g< g-part two =
+      ap (λ (k : ℕ). 1 + k) (place-agree _ _ 1 (g - 1) (λ a low high. go a (omega arith) (partsAt n xs g a) refl))
     where
-      entry : (h : ℕ) → h < 2 ^ n → markIn xs h ≡ 2 → getD layers h 0 ≡ getD (fewestLayers n ys) h 0
-      entry h h< two-h = known h h< two-h ∙ ap (λ (l : List ℕ). getD l h 0) layers-agree
+      entry : (h : ℕ) → PartOf h leaves → markIn xs h ≡ 2 → getD layers h 0 ≡ getD (fewestLayers n ys) h 0
+      entry h part two-h = known h (omega (arith, part, and-le-r h leaves)) part two-h ∙ ap (λ (l : List ℕ). getD l h 0) layers-agree
 
       go : (a : ℕ) → a < g → (b : Bool) → partsAt n xs g a ≡ b
           → (partsAt n xs g a && member (firstInput n g) a && eqb (splitLayers layers g a) (getD layers g 0))
           ≡ (partsAt n ys g a && member (firstInput n g) a && eqb (splitLayers (fewestLayers n ys) g a) (getD (fewestLayers n ys) g 0))
       go a less true e =
           let twos = parts-at-holds n xs g a e in
-          rw (parts-agree g a g< less, entry a (omega arith) (twos .1), entry (g - a) (omega arith) (twos .2), entry g g< two)
+          let parts = parts-inside n xs g a leaves g< less g-part e in
+          rw (parts-agree g a g< less, entry a (parts .0) (twos .1), entry (g - a) (parts .1) (twos .2), entry g g-part two)
       go a less false e = rw (← (parts-agree g a g< less), e)

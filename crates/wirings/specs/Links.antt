@@ -1,13 +1,7 @@
 -- What a wiring by value represents: its links, in the order of the gates.
 -- Assumes nothing.
-use Prim.Native.Nat.{ℕ, _+_, _-_, _<_}
-use mathlib.Core.Path.{_≡_, refl, ap, ap₂, _∙_}
-use mathlib.Core.List.{List, [], _∷_, _++_, map}
-use native.Mathlib.Nat.{zero-add}
-use native.Mathlib.Numerals.{add-one}
-use native.Mathlib.Omega.{arith}
-use lib.ListN.{length, getD, set, replicate}
-use lib.Seq.{getD-set-same, getD-set-other}
+use Rattle.laws.specs.Prelude.{ℕ, _<_, _+_, _-_, _≡_, _∙_, ap, refl, ap₂, List, [], _∷_, _++_, map, zero-add, add-one, arith, length, getD, set, replicate}
+use Rattle.laws.specs.Prelude.{getD-set-same, getD-set-other}
 use Rattle.rules.specs.Lists.{range}
 use Rattle.rules.specs.Limits.{mostInputs}
 use Rattle.rules.specs.Nets.Wirings.{Link}

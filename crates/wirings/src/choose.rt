@@ -24,7 +24,8 @@ fn wire_group(
     g: usize,
     wiring: forms::Wiring,
 ) -> Wired
-    requires { ⌜ (Choosable n (now marks) (splitBy choice n (now marks) (now fewest)) g) × (LayersRoom choice g (now fewest)) × (wiring .gates + size n g ≤ n) ⌝ }
+    requires { ⌜ (Choosable n (now marks) (splitBy choice n (now marks) (now fewest)) g) × (LayersRoom choice g (now fewest))
+        × (wiring .gates + size n g ≤ n) ⌝ }
     ensures { λ r. ⌜ Added n (splitBy choice n (now (marks .entry)) (now (fewest .entry))) g wiring (r .wiring) (r .reference) ⌝ }
 {
     if members::single(g) {

@@ -1,17 +1,17 @@
-// The fewest layers of every group of mark 2, by rising number.
+// The fewest layers of the groups of mark 2, by rising number.
 ghost use mathlib.Core.Path.{_≡_};
-ghost use Prim.Native.Nat.{ℕ, _^_, _≤_, _<_};
+ghost use Prim.Native.Nat.{ℕ, _+_, _^_, _≤_, _<_};
 ghost use lib.ListN.{length};
 ghost use Rattle.rules.specs.Nets.Shallow.{splitLayers, fewestOf};
 ghost use Rattle.rules.specs.Groups.Marks.{markIn};
-ghost use Rattle.wirings.specs.FewestLayers.{WiringFewer, layersOf, WiringKnown};
+ghost use Rattle.wirings.specs.FewestLayers.{WiringFewer, layersOf, PartAfter, WiringKnown};
 ghost use Rattle.wirings.specs.Fast.Floors.{Under};
+ghost use Rattle.radix.specs.Parts.{PartOf};
 ghost use Rattle.radix.specs.Widths.{groupsEnd, mostMembers};
 use crate::fast::floors;
 use marks::own;
 use marks::split;
 use radix::members;
-use radix::powers;
 
 // Returns the layers of a gate that joins a and the rest of g if each has its fewest layers.
 pub fn split_layers(fewest: &[u8], g: usize, a: usize) -> usize
@@ -65,7 +65,8 @@ fn fewest_of(marks: &[u8], fewest: &[u8], g: usize, floor: usize) -> usize
 
 // Returns the same if g has mark 2, else 0, because no other group can be a part.
 fn layers_of(marks: &[u8], fewest: &[u8], g: usize, floor: usize) -> usize
-    requires { ⌜ (g < groupsEnd) × (g < length (now marks)) × (g ≤ length (now fewest)) × (markIn (now marks) g ≡ 2 → Under (now marks) (now fewest) g floor) ⌝ }
+    requires { ⌜ (g < groupsEnd) × (g < length (now marks)) × (g ≤ length (now fewest))
+        × (markIn (now marks) g ≡ 2 → Under (now marks) (now fewest) g floor) ⌝ }
     ensures { λ r. ⌜ ((n : ℕ) → g < 2 ^ n → r ≡ layersOf n (now (marks .entry)) (now (fewest .entry)) g) ⌝ }
 {
     if g == 0 {
@@ -77,22 +78,32 @@ fn layers_of(marks: &[u8], fewest: &[u8], g: usize, floor: usize) -> usize
     fewest_of(marks, fewest, g, floor)
 }
 
-// Writes the fewest layers of each group of mark 2 at its number.
-pub fn fewest_layers(n: usize, marks: &[u8], fewest: &mut [u8])
-    requires { ⌜ (n ≤ mostMembers) × (2 ^ n ≤ length (now marks)) × (2 ^ n ≤ length (now fewest)) ⌝ }
-    ensures { λ _. ⌜ WiringKnown n (now (marks .entry)) (2 ^ n) (now (fewest .exit)) ⌝ }
+// Returns the part of `leaves` after g, or a number past them if g is the last.
+fn part_after(leaves: usize, g: usize) -> usize
+    requires { ⌜ (leaves < groupsEnd) × (g ≤ leaves) × (PartOf g leaves) ⌝ }
+    ensures { λ r. ⌜ PartAfter leaves g r ⌝ }
 {
-    let end = powers::power(2, n);
+    if g == leaves {
+        return g + 1;
+    }
+    members::next_part(leaves, g)
+}
+
+// Writes the fewest layers of each group of mark 2 inside `leaves` at its number: no other group is a part of their tree.
+pub fn fewest_layers(n: usize, marks: &[u8], leaves: usize, fewest: &mut [u8])
+    requires { ⌜ (n ≤ mostMembers) × (2 ^ n ≤ length (now marks)) × (2 ^ n ≤ length (now fewest)) × (leaves < 2 ^ n) ⌝ }
+    ensures { λ _. ⌜ WiringKnown n (now (marks .entry)) leaves (leaves + 1) (now (fewest .exit)) ⌝ }
+{
     // Whether all groups of mark 2 so far have enough layers for their members. Then the members of the next group give it a floor.
     let mut sized = true;
     let mut g: usize = 0;
-    while g < end {
+    while g <= leaves {
         let floor = floors::floor_at(marks, g, sized);
         let layers = layers_of(marks, fewest, g, floor);
         fewest[g] = layers as u8;
         if layers < floor {
             sized = false;
         }
-        g += 1;
+        g = part_after(leaves, g);
     }
 }

@@ -1,9 +1,6 @@
 -- The result of reading an arrival sheet.
 -- Assumes nothing.
-use Prim.Native.Nat.{ℕ}
-use mathlib.Core.Path.{_≡_, ap, _∙_}
-use mathlib.Core.List.{List, []}
-use lib.ListN.{length, drop}
+use Rattle.laws.specs.Prelude.{ℕ, _≡_, _∙_, ap, List, [], length, drop}
 use Rattle.rules.specs.Text.{space, newline, text}
 use Rattle.rules.specs.Sheets.Fields.{Reader, _>>=_, give, theWord, closed}
 use Rattle.rules.specs.Sheets.Reading.{answered}

@@ -1,12 +1,6 @@
 -- One line, field by field.
 -- Assumes nothing.
-use Prim.Native.Nat.{ℕ, _≤_}
-use mathlib.Core.Path.{_≡_, refl}
-use mathlib.Core.Bool.{_&&_, and-eq-true-iff}
-use mathlib.Core.List.{List}
-use lib.ListN.{drop}
-use lib.Dec.{leb}
-use borrow.Author.Tests.{leb-true}
+use Rattle.laws.specs.Prelude.{ℕ, _≤_, _≡_, refl, _&&_, and-eq-true-iff, List, leb, drop, leb-true}
 use Rattle.rules.specs.Text.{space, newline, newlineByte, valueOf, isDecimal}
 use Rattle.rules.specs.Limits.{mostTime}
 use Rattle.rules.specs.Sheets.Fields.{Reader, _>>=_, give, field, run}
@@ -66,6 +60,7 @@ unfolding fromTo newline
 to-on s step at from reads value next e =
     let bounds = time-on s step at value next e from newlineByte reads in
     record {
-      reads = chained-on itself (field (timeField from) newlineByte) (λ to. give (arrivalOf from to)) s at step reads (λ _. arrivalOf from value) (On value next) value next e refl;
+      reads = chained-on itself (field (timeField from) newlineByte) (λ to. give (arrivalOf from to)) s at step reads (λ _. arrivalOf from value)
+          (On value next) value next e refl;
       held = λ _ _ _. (bounds .1, bounds .0);
     }

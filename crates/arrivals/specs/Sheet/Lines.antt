@@ -1,16 +1,8 @@
 -- The lines, one after the other.
 -- Assumes nothing.
-use Prim.Native.Nat.{ℕ, _+_, _≤_, _<_}
-use mathlib.Core.Path.{_≡_, refl, sym, ap, ap₂, _∙_}
-use mathlib.Core.Bool.{Bool, true, false}
-use mathlib.Core.List.{List, [], _∷_, _++_, map}
-use native.Mathlib.Nat.{zero-add}
-use native.Mathlib.Numerals.{add-one}
-use native.Mathlib.Omega.{arith}
-use lib.ListN.{length, getD, drop, set, replicate, length-set, drop-of-length-le}
-use lib.Seq.{drop-cons, getD-set-same, getD-set-other}
-use lib.Dec.{eqb}
-use borrow.Author.Tests.{eqb-true, eqb-false}
+use Rattle.laws.specs.Prelude.{ℕ, _<_, _≤_, _+_, _≡_, _∙_, sym, ap, refl, ap₂, true, false, Bool, List, [], _∷_, _++_, map, zero-add, add-one, arith, eqb}
+use Rattle.laws.specs.Prelude.{length, getD, drop, set, length-set, replicate, drop-of-length-le, getD-set-same, getD-set-other, drop-cons, eqb-true}
+use Rattle.laws.specs.Prelude.{eqb-false}
 use Rattle.rules.specs.Lists.{range}
 use Rattle.rules.specs.Limits.{mostInputs, mostTime}
 use Rattle.rules.specs.Sheets.Fields.{then}
@@ -65,7 +57,8 @@ arrivals-more times i from to hf ht =
     ∙ map-range-suc (arrival (stored times i from to)) i
     ∙ ap₂ (λ (earlier : List Arrival) (a : Arrival). earlier ++ (a ∷ []))
     (map-range-same (arrival (stored times i from to)) (arrival times) 0 i
-    (λ k _ below. ap₂ arrivalOf (getD-set-other (times .from) i k from 0 (λ q. omega (arith, q))) (getD-set-other (times .to) i k to 0 (λ q. omega (arith, q)))))
+    (λ k _ below. ap₂ arrivalOf (getD-set-other (times .from) i k from 0 (λ q. omega (arith, q)))
+    (getD-set-other (times .to) i k to 0 (λ q. omega (arith, q)))))
     (ap₂ arrivalOf (getD-set-same (times .from) i from 0 hf) (getD-set-same (times .to) i to 0 ht))
   where
     arrival : Times → ℕ → Arrival
@@ -114,7 +107,8 @@ module _ (names : List (List ℕ)) (s : List ℕ) (at : ℕ) (times : Times) (pl
           held = λ value next q. absurd (never-both (line .step) number back value next e q);
         }
 
-    pub arrival-lines-next : (value next : ℕ) → i < mostInputs → line .step ≡ On value next → ArrivalReading names s at (stored times i (line .from) (line .to)) next (i + 1)
+    pub arrival-lines-next : (value next : ℕ) → i < mostInputs → line .step ≡ On value next
+        → ArrivalReading names s at (stored times i (line .from) (line .to)) next (i + 1)
     unfolding then
     arrival-lines-next value next room e =
         let held = reading .held in

@@ -1,17 +1,9 @@
 -- A time, by its length, its first byte and its digits.
 -- Assumes nothing.
-use Prim.Native.Nat.{ℕ, _+_, _*_, _-_, _^_, _≤_, _<_}
-use mathlib.Core.Path.{_≡_, refl, sym, ap, _∙_}
-use mathlib.Core.Bool.{Bool, true, false, not, _&&_, _||_, true≢false, and-false, and-eq-true-iff}
+use Rattle.laws.specs.Prelude.{ℕ, _<_, _≤_, _+_, _-_, _^_, _*_, _≡_, _∙_, sym, ap, refl, true, false, Bool, _&&_, not, true≢false, and-eq-true-iff, _||_}
+use Rattle.laws.specs.Prelude.{and-false, List, pow-suc, pow-le-pow-right, lt-of-lt-of-le, add-one, decLt, arith, eqb, leb, length, getD, drop}
+use Rattle.laws.specs.Prelude.{drop-of-length-le, eqb-true, le-ltb, eqb-false, not-true, le-leb, lt-leb, leb-true, leb-false}
 use mathlib.Core.Option.{Option, none, some}
-use mathlib.Core.List.{List}
-use native.Mathlib.Nat.{lt-of-lt-of-le, pow-suc, pow-le-pow-right}
-use native.Mathlib.Numerals.{add-one}
-use native.Mathlib.Omega.{arith}
-use native.Mathlib.Decide.{decLt}
-use lib.ListN.{length, getD, drop, drop-of-length-le}
-use lib.Dec.{eqb, leb}
-use borrow.Author.Tests.{leb-true, leb-false, le-leb, lt-leb, le-ltb, eqb-true, eqb-false, not-true}
 use Rattle.rules.specs.Lists.{all}
 use Rattle.rules.specs.Text.{isDigit, valueOf, isDecimal, zeroByte}
 use Rattle.rules.specs.Limits.{mostTime}

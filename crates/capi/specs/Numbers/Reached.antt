@@ -1,9 +1,6 @@
 -- A job's answer for a group, as the call for C returns it. The two numbers determine the answer.
 -- Assumes nothing.
-use Prim.Native.Nat.{ℕ, _^_}
-use mathlib.Core.Path.{_≡_, refl}
-use mathlib.Core.Bool.{true, false, _||_}
-use lib.Dec.{eqb, leb}
+use Rattle.laws.specs.Prelude.{ℕ, _^_, _≡_, refl, true, false, _||_, eqb, leb}
 use Rattle.rules.specs.Calls.Answers.{Answer, accepted, refused}
 use Rattle.rules.specs.Calls.Jobs.{Job, Reached, final, notReached, reachedIn, askJob}
 use Rattle.laws.specs.Calls.Answers.{not-refused}
@@ -37,7 +34,8 @@ module _ (job : Job) (g : ℕ) where
   pub reached-told : reachedFrom (flatReached (askJob job g .answer)) ≡ askJob job g .answer
   unfolding askJob
   reached-told =
-      by-test (λ (a : Answer Reached). reachedFrom (flatReached a) ≡ a) (eqb g 0 || leb (2 ^ job .table .header .inputs) g) _ _ refl (accepted-told (reachedIn job g))
+      by-test (λ (a : Answer Reached). reachedFrom (flatReached a) ≡ a) (eqb g 0 || leb (2 ^ job .table .header .inputs) g) _ _ refl
+      (accepted-told (reachedIn job g))
     where
       accepted-told : (r : Reached) → reachedFrom (flatReached (accepted r)) ≡ accepted r
       accepted-told (final mark) = refl

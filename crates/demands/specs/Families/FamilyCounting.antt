@@ -1,11 +1,7 @@
 -- Document 02, K3: "One call takes a table sheet with making's cells and marks buffers, no output, and answers the count of the trees." "A table with
 -- no tree gets count 0, never 16." What the count counts is in `FamilySheets`.
 -- Assumes nothing.
-use Prim.Native.Nat.{ℕ, _^_, _≤_, _<_}
-use mathlib.Core.Path.{_≡_, refl, sym, ap, _∙_}
-use mathlib.Core.Logic.{_↔_, Iff·trans}
-use mathlib.Core.List.{List, []}
-use lib.ListN.{length}
+use Rattle.laws.specs.Prelude.{ℕ, _<_, _≤_, _^_, _≡_, _∙_, sym, ap, refl, _↔_, Iff·trans, List, [], length}
 use Rattle.rules.specs.Lists.{any}
 use Rattle.rules.specs.Sheets.Sheets.{Table}
 use Rattle.rules.specs.Groups.Marks.{marksLength}

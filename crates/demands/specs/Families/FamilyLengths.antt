@@ -1,11 +1,7 @@
 -- With buffers of the lengths that include/sitgurp.h calls enough, the count call refuses only with its sheet's numbers, and the call for a number
 -- with those and 17.
 -- Assumes nothing.
-use Prim.Native.Nat.{ℕ, _≤_, _<_}
-use mathlib.Core.Path.{_≡_, refl, sym, _∙_}
-use mathlib.Core.List.{List, [], _∷_}
-use native.Mathlib.Nat.{le-trans}
-use lib.ListN.{length}
+use Rattle.laws.specs.Prelude.{ℕ, _<_, _≤_, _≡_, _∙_, sym, refl, List, [], _∷_, le-trans, length}
 use Rattle.rules.specs.Lists.{all, any}
 use Rattle.rules.specs.Limits.{mostCells}
 use Rattle.rules.specs.Sheets.Sheets.{Table}

@@ -1,14 +1,9 @@
 -- Document 02, K3: "The order is by A's number, then A's tree, then B's." Defines the order of two trees by their shapes, without counts, and proves
 -- that the wirings of a group's numbers follow it. Marks are any list here.
 -- Assumes nothing.
-use Prim.Native.Nat.{ℕ, zero, suc, _+_, _-_, _*_, _/_, _%_, _^_, _≤_, _<_}
-use mathlib.Core.Path.{_≡_, refl, sym, ap, _∙_, subst}
-use mathlib.Core.Logic.{_⊎_, inl, inr}
-use mathlib.Core.Bool.{Bool, true, false, cond}
-use mathlib.Core.List.{List, [], _∷_, map, List·Memᴰ, List·Memᴰ·head, List·Memᴰ·tail}
-use native.Mathlib.Nat.{mul-le-mul, suc-mul, mod-lt, div-add-mod', le-refl}
-use native.Mathlib.Omega.{arith}
-use native.Mathlib.Decide.{decLt, ℕ-discrete}
+use Rattle.laws.specs.Prelude.{ℕ, _<_, _≤_, _+_, _-_, _^_, suc, _*_, zero, _%_, _/_, _≡_, _∙_, sym, ap, refl, subst, _⊎_, inl, inr, true, false, Bool}
+use Rattle.laws.specs.Prelude.{cond, List, [], _∷_, map, List·Memᴰ, List·Memᴰ·head, List·Memᴰ·tail, suc-mul, mul-le-mul, mod-lt, div-add-mod', le-refl}
+use Rattle.laws.specs.Prelude.{decLt, ℕ-discrete, arith}
 use Rattle.rules.specs.Lists.{range, those, total}
 use Rattle.rules.specs.Groups.Groups.{size}
 use Rattle.rules.specs.Nets.Wirings.{Wiring, input, gate, groupOf}

@@ -1,13 +1,7 @@
 -- Making and the two calls of a family first judge the same: the sheet, then room for the cells and for the marks. So either all three refuse in the
 -- same way and change no buffer, or each continues with the same table.
 -- Assumes nothing.
-use Prim.Native.Nat.{ℕ, _^_, _≤_, _<_}
-use mathlib.Core.Path.{_≡_, refl, ap, _∙_}
-use mathlib.Core.List.{List, [], _∷_}
-use native.Mathlib.Omega.{arith}
-use native.Mathlib.Decide.{decLt, ℕ-discrete}
-use lib.ListN.{length}
-use lib.Dec.{ltb}
+use Rattle.laws.specs.Prelude.{ℕ, _<_, _≤_, _^_, _≡_, _∙_, ap, refl, List, [], _∷_, decLt, ℕ-discrete, arith, ltb, length}
 use Rattle.rules.specs.Lists.{all, any}
 use Rattle.rules.specs.Sheets.Sheets.{Table}
 use Rattle.rules.specs.Sheets.Printed.{printedNet}

@@ -2,11 +2,7 @@
 -- left. The order is by A's number, then A's tree, then B's. Gate tables follow the settled net's rule.", and all "on just these" leaves (K12).
 -- Stated for what is written, without counts.
 -- Assumes nothing.
-use Prim.Native.Nat.{ℕ, _^_, _<_}
-use mathlib.Core.Path.{_≡_, refl, sym, ap, _∙_, subst, subst₂}
-use mathlib.Core.Bool.{true, false}
-use mathlib.Core.List.{List}
-use native.Mathlib.Omega.{arith}
+use Rattle.laws.specs.Prelude.{ℕ, _<_, _^_, _≡_, _∙_, sym, ap, refl, subst, subst₂, true, false, List, arith}
 use Rattle.rules.specs.Sheets.Sheets.{Gate, Net, Table}
 use Rattle.rules.specs.Groups.Groups.{size}
 use Rattle.rules.specs.Nets.Wirings.{Wiring, input, gate, groupOf, linksOf}

@@ -2,14 +2,8 @@
 -- table and is on just the table's leaves, its sheet is as long as the settled net's, and number 0 is the settled net. There is a number exactly if
 -- the whole group has mark 2.
 -- Assumes nothing.
-use Prim.Native.Nat.{ℕ, zero, suc, _+_, _^_, _≤_, _<_}
-use mathlib.Core.Path.{_≡_, refl, ap, _∙_, subst⁻¹}
-use mathlib.Core.Logic.{_↔_, by-cases}
-use mathlib.Core.List.{List}
-use native.Mathlib.Nat.{le-trans, le-refl, mul-le-mul-right}
-use native.Mathlib.Omega.{arith}
-use native.Mathlib.Decide.{decLe}
-use lib.ListN.{length}
+use Rattle.laws.specs.Prelude.{ℕ, _<_, _≤_, _+_, _^_, suc, zero, _≡_, _∙_, ap, refl, subst⁻¹, _↔_, by-cases, List, mul-le-mul-right, le-trans, le-refl}
+use Rattle.laws.specs.Prelude.{decLe, arith, length}
 use Rattle.rules.specs.Sheets.Sheets.{Gate, Net, Table}
 use Rattle.rules.specs.Sheets.Printed.{printedNet}
 use Rattle.rules.specs.Groups.Groups.{size}

@@ -2,12 +2,7 @@
 -- wiring. Every wiring that computes the table turns up under just one number". Every tree on just the table's leaves that computes it, whatever its
 -- digits, differs only in which side is left from the tree that the call for exactly one number writes; no tree on other leaves does.
 -- Assumes nothing.
-use Prim.Native.Nat.{ℕ, _+_, _-_}
-use mathlib.Core.Path.{_≡_, sym, ap, _∙_, subst}
-use mathlib.Core.Logic.{_↔_}
-use mathlib.Core.List.{List}
-use native.Mathlib.Omega.{arith}
-use lib.ListN.{length}
+use Rattle.laws.specs.Prelude.{ℕ, _+_, _-_, _≡_, _∙_, sym, ap, subst, _↔_, List, arith, length}
 use Rattle.rules.specs.Sheets.Sheets.{Gate, Net, Table}
 use Rattle.rules.specs.Nets.Value.{value}
 use Rattle.rules.specs.Nets.Wirings.{groupOf, gatesIn}

@@ -2,11 +2,7 @@
 -- "order number not below the count, place the number, judged after 14 and before 15; it takes the place of 16 in the second call and leaves what 16
 -- leaves." For every other number the call has the same result as making, except for the sheet; for number 0 exactly the same result.
 -- Assumes nothing.
-use Prim.Native.Nat.{ℕ, _≤_}
-use mathlib.Core.Path.{_≡_, refl, sym, ap, _∙_}
-use mathlib.Core.Logic.{_↔_}
-use mathlib.Core.List.{List, [], _∷_}
-use native.Mathlib.Omega.{arith}
+use Rattle.laws.specs.Prelude.{ℕ, _≤_, _≡_, _∙_, sym, ap, refl, _↔_, List, [], _∷_, arith}
 use Rattle.rules.specs.Lists.{any}
 use Rattle.rules.specs.Sheets.Sheets.{Net, Table}
 use Rattle.rules.specs.Sheets.Printed.{printedNet}

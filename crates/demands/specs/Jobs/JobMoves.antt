@@ -1,15 +1,9 @@
 -- The job after any list of steps and questions: its table is unchanged, each step passes one group until all are passed, and the marks
 -- of the groups passed are document 01's, every other mark 0.
 -- Assumes nothing.
-use Prim.Native.Nat.{ℕ, suc, _+_, _-_, _^_, _≤_, _<_}
-use mathlib.Core.Path.{_≡_, refl, sym, ap, _∙_}
-use mathlib.Core.List.{List, [], _∷_}
-use native.Mathlib.Nat.{lt-of-not-le}
-use native.Mathlib.Decide.{decLe, ℕ-discrete}
-use native.Mathlib.Omega.{arith}
-use lib.ListN.{length, replicate, set, length-set, length-replicate, getD-replicate, List·getD-eq-default}
-use lib.Pow.{pow-pos}
-use lib.Seq.{getD-set-same, getD-set-other, ext-getD}
+use Rattle.laws.specs.Prelude.{ℕ, _<_, _≤_, _+_, _-_, _^_, suc, _≡_, _∙_, sym, ap, refl, List, [], _∷_, lt-of-not-le, ℕ-discrete, decLe, arith, length}
+use Rattle.laws.specs.Prelude.{set, length-set, replicate, length-replicate, getD-replicate, List·getD-eq-default, getD-set-same, getD-set-other, ext-getD}
+use Rattle.laws.specs.Prelude.{pow-pos}
 use Rattle.rules.specs.Sheets.Sheets.{Table}
 use Rattle.rules.specs.Groups.Marks.{markIn, markOf, marksOf}
 use Rattle.rules.specs.Calls.Answers.{inkIn}

@@ -1,14 +1,8 @@
 -- Document 02, K9: the promises about jobs. "For every list of steps and askings from a newly opened job, the marks passed are those of document 01
 -- and every other mark in the job is 0."
 -- Assumes nothing.
-use Prim.Native.Nat.{ℕ, _+_, _-_, _^_, _≤_, _<_}
-use mathlib.Core.Path.{_≡_, refl, sym, ap, _∙_, subst}
-use mathlib.Core.Logic.{_↔_}
-use mathlib.Core.List.{List, [], _∷_}
-use native.Mathlib.Nat.{lt-of-not-le, zero-add}
-use native.Mathlib.Decide.{decLe, ℕ-discrete}
-use native.Mathlib.Omega.{arith}
-use lib.ListN.{length, replicate}
+use Rattle.laws.specs.Prelude.{ℕ, _<_, _≤_, _+_, _-_, _^_, _≡_, _∙_, sym, ap, refl, subst, _↔_, List, [], _∷_, zero-add, lt-of-not-le, ℕ-discrete, decLe}
+use Rattle.laws.specs.Prelude.{arith, length, replicate}
 use Rattle.rules.specs.Limits.{levelsFit, sizeFits}
 use Rattle.rules.specs.Sheets.Sheets.{Table}
 use Rattle.rules.specs.Groups.Marks.{markIn}

@@ -3,15 +3,8 @@
 -- the sheet written is an accepted net with the given wiring and exactly the table, and the set is exactly the gates that changed. Keeping again
 -- changes nothing; keeping the wiring of the settled net gives making's sheet; keeping leaves every sheet of a family as it is.
 -- Assumes nothing.
-use Prim.Native.Nat.{ℕ, suc, _-_, _^_, _≤_, _<_}
-use mathlib.Core.Path.{_≡_, refl, sym, ap, ap₂, _∙_, subst, subst⁻¹}
-use mathlib.Core.Logic.{_↔_, _≢_, _⊎_, inl, inr, ⊎-elim}
-use mathlib.Core.Bool.{Bool, true, false, true≢false}
-use mathlib.Core.List.{List}
-use native.Mathlib.Nat.{lt-of-not-le}
-use native.Mathlib.Decide.{decLe}
-use native.Mathlib.Omega.{arith}
-use lib.ListN.{length, getD, take}
+use Rattle.laws.specs.Prelude.{ℕ, _<_, _≤_, _-_, _^_, suc, _≡_, _∙_, sym, ap, refl, subst, ap₂, subst⁻¹, _↔_, _≢_, ⊎-elim, _⊎_, inl, inr, true, false}
+use Rattle.laws.specs.Prelude.{Bool, true≢false, List, lt-of-not-le, decLe, arith, length, getD, take}
 use Rattle.rules.specs.Limits.{mostSettled}
 use Rattle.rules.specs.Sheets.Sheets.{Gate, Net, Table}
 use Rattle.rules.specs.Sheets.Printed.{printedNet}

@@ -1,12 +1,6 @@
 -- With the buffers that include/sitgurp.h says always suffice, keeping a wiring refuses only with the numbers of its two sheets, 27, 12 and 23.
 -- Assumes nothing.
-use Prim.Native.Nat.{ℕ, _^_, _≤_}
-use mathlib.Core.Path.{_≡_, refl, sym, ap, _∙_, subst₂}
-use mathlib.Core.Bool.{Bool, true, false}
-use mathlib.Core.List.{List, [], _∷_}
-use native.Mathlib.Nat.{le-trans}
-use native.Mathlib.Omega.{arith}
-use lib.ListN.{length}
+use Rattle.laws.specs.Prelude.{ℕ, _≤_, _^_, _≡_, _∙_, sym, ap, refl, subst₂, true, false, Bool, List, [], _∷_, le-trans, arith, length}
 use Rattle.rules.specs.Lists.{all, any}
 use Rattle.rules.specs.Limits.{mostCells, mostSettled}
 use Rattle.rules.specs.Sheets.Sheets.{Net, Table}

@@ -1,14 +1,7 @@
 -- Document 02, K10 and K12, stated for nets and full tables: when a net's wiring can be filled for a table, and what filling it gives.
 -- Assumes nothing.
-use Prim.Native.Nat.{ℕ, _^_, _≤_, _<_}
-use mathlib.Core.Path.{_≡_, refl, sym, ap, _∙_, subst⁻¹}
-use mathlib.Core.Logic.{_↔_, _⊎_, inl, inr, ⊎-elim}
-use mathlib.Core.Bool.{Bool, true, false, not, _&&_, true≢false, and-eq-true-iff}
-use mathlib.Core.List.{List}
-use native.Mathlib.Omega.{arith}
-use lib.ListN.{length, getD}
-use lib.Dec.{eqb}
-use borrow.Author.Tests.{not-true}
+use Rattle.laws.specs.Prelude.{ℕ, _<_, _≤_, _^_, _≡_, _∙_, sym, ap, refl, subst⁻¹, _↔_, ⊎-elim, _⊎_, inl, inr, true, false, Bool, _&&_, not, true≢false}
+use Rattle.laws.specs.Prelude.{and-eq-true-iff, List, arith, eqb, length, getD, not-true}
 use Rattle.rules.specs.Lists.{range, any, those, firstPlace}
 use Rattle.rules.specs.Sheets.Sheets.{Header, Gate, Net, Table, usedBy}
 use Rattle.rules.specs.Nets.Leaves.{matters}

@@ -2,16 +2,9 @@
 -- differing only there differ in ink." The leaves are "just the inputs that matter .. if fewer than two do, the first-listed others make up two":
 -- each input that matters, at least two and otherwise no more, and another input only if no earlier one is left out.
 -- Assumes nothing.
-use Prim.Native.Nat.{ℕ, zero, suc, _-_, _<_, max}
-use mathlib.Core.Path.{_≡_, refl, sym, ap, _∙_}
-use mathlib.Core.Logic.{_↔_, _≢_, ⊎-elim}
-use mathlib.Core.Bool.{Bool, true, false, not, cond, true≢false}
-use mathlib.Core.List.{List, _∷_, List·Memᴰ, List·Memᴰ·head, List·Memᴰ·tail, List·Memᴰ·cases-cons, List·Memᴰ·not-nil, List·Memᴰ·append-cases, Memᴰ·append-right}
-use native.Mathlib.Nat.{zero-add}
-use native.Mathlib.Omega.{arith}
-use lib.ListN.{length, getD, take}
-use lib.Dec.{eqb}
-use borrow.Author.Tests.{eq-eqb}
+use Rattle.laws.specs.Prelude.{ℕ, _<_, _-_, suc, zero, max, _≡_, _∙_, sym, ap, refl, _↔_, _≢_, ⊎-elim, true, false, Bool, not, true≢false, cond, List, _∷_}
+use Rattle.laws.specs.Prelude.{List·Memᴰ, List·Memᴰ·head, List·Memᴰ·not-nil, List·Memᴰ·tail, List·Memᴰ·append-cases, List·Memᴰ·cases-cons}
+use Rattle.laws.specs.Prelude.{Memᴰ·append-right, zero-add, arith, eqb, length, getD, take, eq-eqb}
 use Rattle.rules.specs.Lists.{range, those}
 use Rattle.rules.specs.Sheets.Sheets.{Table, level, levelsAt}
 use Rattle.rules.specs.Groups.Groups.{member, size}

@@ -3,13 +3,7 @@
 -- exactly if there is none on the table's leaves, none on all inputs, and none at all (`make-refuses`). The same holds for every group of two or more
 -- inputs with all that matter. Stated for gate lists, accepted net sheets and Section I's trees.
 -- Assumes nothing.
-use Prim.Native.Nat.{ℕ, zero, suc, _^_, _≤_, _<_}
-use mathlib.Core.Path.{_≡_, sym, _∙_}
-use mathlib.Core.Logic.{_↔_, Iff·trans, Iff·not}
-use mathlib.Core.Bool.{true}
-use mathlib.Core.List.{List}
-use native.Mathlib.Omega.{arith}
-use lib.ListN.{length}
+use Rattle.laws.specs.Prelude.{ℕ, _<_, _≤_, _^_, suc, zero, _≡_, _∙_, sym, _↔_, Iff·trans, Iff·not, true, List, arith, length}
 use Rattle.rules.specs.Sheets.Sheets.{Gate, Net, Table}
 use Rattle.rules.specs.Sheets.Printed.{printedNet}
 use Rattle.rules.specs.Groups.Groups.{member, size, wholeGroup}

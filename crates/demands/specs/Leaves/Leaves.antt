@@ -3,16 +3,7 @@
 -- sheet that a call writes from a table, whatever the buffers: which inputs it uses, that every leaf matters if two or more inputs do, that it has
 -- no more gates than its leaves need, and that nothing with that table has fewer gates.
 -- Assumes nothing.
-use Prim.Native.Nat.{ℕ, suc, _≤_, _<_, max}
-use mathlib.Core.Path.{_≡_, sym, ap, _∙_, subst}
-use mathlib.Core.Logic.{by-cases}
-use mathlib.Core.Bool.{true, false}
-use mathlib.Core.List.{List}
-use native.Mathlib.Nat.{lt-of-not-le}
-use native.Mathlib.Decide.{decLe}
-use native.Mathlib.Omega.{arith}
-use lib.ListN.{length}
-use lib.Dec.{eqb}
+use Rattle.laws.specs.Prelude.{ℕ, _<_, _≤_, suc, max, _≡_, _∙_, sym, ap, subst, by-cases, true, false, List, lt-of-not-le, decLe, arith, eqb, length}
 use Rattle.rules.specs.Lists.{any}
 use Rattle.rules.specs.Sheets.Sheets.{Gate, Net, Table, usedBy}
 use Rattle.rules.specs.Groups.Groups.{size}

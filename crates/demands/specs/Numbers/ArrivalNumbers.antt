@@ -1,9 +1,6 @@
 -- The numbers with which the call for arrival times may refuse, by the sheet that it refuses.
 -- Assumes nothing.
-use Prim.Native.Nat.{ℕ}
-use mathlib.Core.Path.{_≡_, subst}
-use mathlib.Core.List.{List}
-use native.Mathlib.Omega.{arith}
+use Rattle.laws.specs.Prelude.{ℕ, _≡_, subst, List, arith}
 use Rattle.rules.specs.Sheets.Reading.{readNet}
 use Rattle.rules.specs.Sheets.ArrivalSheet.{readArrivals}
 use Rattle.rules.specs.Nets.Arrivals.{Timing, netRefused, arrivalsRefused, arrivalsCall}

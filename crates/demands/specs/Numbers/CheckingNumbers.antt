@@ -1,12 +1,6 @@
 -- The numbers with which checking may refuse.
 -- Assumes nothing.
-use Prim.Native.Nat.{ℕ}
-use mathlib.Core.Path.{_≡_, refl, subst₂}
-use mathlib.Core.Bool.{not, _&&_}
-use mathlib.Core.List.{List, [], _∷_}
-use native.Mathlib.Omega.{arith}
-use lib.ListN.{length, getD}
-use lib.Dec.{eqb, ltb}
+use Rattle.laws.specs.Prelude.{ℕ, _≡_, refl, subst₂, _&&_, not, List, [], _∷_, arith, eqb, ltb, length, getD}
 use Rattle.rules.specs.Lists.{range, any, firstPlace}
 use Rattle.rules.specs.Calls.Answers.{Named, netNamed, tableNamed, neither}
 use Rattle.rules.specs.Sheets.Reading.{readNet, readTable}

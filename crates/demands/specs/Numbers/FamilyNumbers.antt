@@ -1,9 +1,7 @@
 -- The numbers with which the two calls of a family may refuse: making's, except 16. "A table with no tree gets count 0, never 16", and 17 "takes the
 -- place of 16 in the second call".
 -- Assumes nothing.
-use Prim.Native.Nat.{ℕ}
-use mathlib.Core.Path.{_≡_, refl, sym, _∙_}
-use mathlib.Core.List.{List, [], _∷_}
+use Rattle.laws.specs.Prelude.{ℕ, _≡_, _∙_, sym, refl, List, [], _∷_}
 use Rattle.rules.specs.Lists.{all, any}
 use Rattle.rules.specs.Calls.Answers.{refused}
 use Rattle.rules.specs.Calls.Settling.{Made}

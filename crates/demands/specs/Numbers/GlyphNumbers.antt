@@ -1,15 +1,7 @@
 -- The numbers with which the glyph call may refuse.
 -- Assumes nothing.
-use Prim.Native.Nat.{ℕ, _*_, _≤_, _<_}
-use mathlib.Core.Path.{_≡_, refl}
-use mathlib.Core.Bool.{true}
-use mathlib.Core.List.{List, [], _∷_}
-use native.Mathlib.Nat.{mul-le-mul}
-use native.Mathlib.Omega.{arith}
-use lib.ListN.{length}
+use Rattle.laws.specs.Prelude.{ℕ, _<_, _≤_, _*_, _≡_, refl, true, List, [], _∷_, mul-le-mul, arith, eqb, ltb, length, ltb-true}
 use lib.IntN.{ℤ}
-use lib.Dec.{eqb, ltb}
-use borrow.Author.Tests.{ltb-true}
 use Rattle.rules.specs.Lists.{all, any}
 use Rattle.rules.specs.Sheets.Reading.{readNet}
 use Rattle.rules.specs.Calls.TableWriting.{Written}

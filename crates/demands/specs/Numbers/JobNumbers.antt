@@ -1,13 +1,7 @@
 -- The numbers with which a job's calls may refuse, for every job: opening with those of a sheet of a full table, a step with 21, asking with 11,
 -- finishing with 9, 10, 27, 22 and then making's; and that a refusal returns the job unchanged.
 -- Assumes nothing.
-use Prim.Native.Nat.{ℕ, _^_, _≤_}
-use mathlib.Core.Path.{_≡_, refl, sym, ap, _∙_}
-use mathlib.Core.Bool.{_||_}
-use mathlib.Core.List.{List, [], _∷_}
-use native.Mathlib.Nat.{lt-of-not-le}
-use native.Mathlib.Decide.{decLe}
-use lib.Dec.{eqb, leb, ltb}
+use Rattle.laws.specs.Prelude.{ℕ, _≤_, _^_, _≡_, _∙_, sym, ap, refl, _||_, List, [], _∷_, lt-of-not-le, decLe, eqb, ltb, leb}
 use Rattle.rules.specs.Lists.{any}
 use Rattle.rules.specs.Calls.Answers.{refused}
 use Rattle.rules.specs.Calls.OpenCells.{readFull}

@@ -1,11 +1,6 @@
 -- The numbers with which keeping a wiring may refuse, by the sheet that it names.
 -- Assumes nothing.
-use Prim.Native.Nat.{ℕ}
-use mathlib.Core.Path.{_≡_, refl, subst₂}
-use mathlib.Core.List.{List, [], _∷_}
-use native.Mathlib.Omega.{arith}
-use lib.ListN.{length}
-use lib.Dec.{ltb}
+use Rattle.laws.specs.Prelude.{ℕ, _≡_, refl, subst₂, List, [], _∷_, arith, ltb, length}
 use Rattle.rules.specs.Lists.{all, any}
 use Rattle.rules.specs.Sheets.Printed.{printedNet}
 use Rattle.rules.specs.Calls.Answers.{Named, netNamed, tableNamed, neither}

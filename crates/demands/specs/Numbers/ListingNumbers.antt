@@ -1,7 +1,6 @@
 -- The numbers with which the lister may refuse.
 -- Assumes nothing.
-use Prim.Native.Nat.{ℕ}
-use mathlib.Core.List.{List}
+use Rattle.laws.specs.Prelude.{ℕ, List}
 use Rattle.rules.specs.Sheets.Reading.{readNet}
 use Rattle.rules.specs.Calls.Lister.{listing}
 use Rattle.readback.specs.Readers.Numbers.{netNumbers, net-refusal}

@@ -1,10 +1,6 @@
 -- The numbers with which the marking call may refuse.
 -- Assumes nothing.
-use Prim.Native.Nat.{ℕ}
-use mathlib.Core.Path.{refl}
-use mathlib.Core.List.{List, [], _∷_}
-use lib.ListN.{length}
-use lib.Dec.{ltb}
+use Rattle.laws.specs.Prelude.{ℕ, refl, List, [], _∷_, ltb, length}
 use Rattle.rules.specs.Lists.{any}
 use Rattle.rules.specs.Groups.Marks.{marksLength}
 use Rattle.rules.specs.Calls.OpenCells.{fullCells}

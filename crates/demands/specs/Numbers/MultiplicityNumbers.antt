@@ -1,10 +1,6 @@
 -- The numbers with which the multiplicity call may refuse.
 -- Assumes nothing.
-use Prim.Native.Nat.{ℕ, _^_}
-use mathlib.Core.Path.{refl}
-use mathlib.Core.Bool.{_||_}
-use mathlib.Core.List.{List, [], _∷_}
-use lib.Dec.{eqb, leb}
+use Rattle.laws.specs.Prelude.{ℕ, _^_, refl, _||_, List, [], _∷_, eqb, leb}
 use Rattle.rules.specs.Lists.{any}
 use Rattle.rules.specs.Calls.OpenCells.{fullCells}
 use Rattle.rules.specs.Calls.Multiplicity.{multiplicityCall}

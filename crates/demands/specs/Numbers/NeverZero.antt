@@ -1,9 +1,6 @@
 -- No call refuses with 0.
 -- Assumes nothing.
-use Prim.Native.Nat.{ℕ}
-use mathlib.Core.Path.{_≡_, refl, sym}
-use mathlib.Core.Bool.{true≢false}
-use mathlib.Core.List.{List, [], _∷_}
+use Rattle.laws.specs.Prelude.{ℕ, _≡_, sym, refl, true≢false, List, [], _∷_}
 use lib.IntN.{ℤ}
 use Rattle.rules.specs.Lists.{any}
 use Rattle.rules.specs.Calls.Answers.{refused, Named, netNamed, tableNamed, neither}

@@ -1,12 +1,7 @@
 -- Demand 1: ".. turned back with the one number and place that document 01 fixes, and so is every other call". Each call's equation
 -- fixes the number. Here: what it means that a call gives only certain numbers, for all inputs and buffers, and how to prove it case by case.
 -- Assumes nothing.
-use Prim.Native.Nat.{ℕ, _^_}
-use mathlib.Core.Path.{_≡_, refl, sym, _∙_, subst}
-use mathlib.Core.Bool.{Bool, true, false, _&&_, true≢false}
-use mathlib.Core.List.{List}
-use lib.ListN.{length}
-use lib.Dec.{eqb, leb}
+use Rattle.laws.specs.Prelude.{ℕ, _^_, _≡_, _∙_, sym, refl, subst, true, false, Bool, _&&_, true≢false, List, eqb, leb, length}
 use Rattle.rules.specs.Lists.{all, any}
 use Rattle.rules.specs.Limits.{sizeFits}
 use Rattle.rules.specs.Calls.Answers.{Answer, accepted, refused, onward}

@@ -1,11 +1,6 @@
 -- The numbers with which settling and making may refuse.
 -- Assumes nothing.
-use Prim.Native.Nat.{ℕ, _^_}
-use mathlib.Core.Path.{_≡_, refl, subst⁻¹}
-use mathlib.Core.List.{List, [], _∷_}
-use native.Mathlib.Decide.{ℕ-discrete}
-use lib.ListN.{length}
-use lib.Dec.{ltb}
+use Rattle.laws.specs.Prelude.{ℕ, _^_, _≡_, refl, subst⁻¹, List, [], _∷_, ℕ-discrete, ltb, length}
 use Rattle.rules.specs.Lists.{all, any}
 use Rattle.rules.specs.Sheets.Sheets.{Net, Table}
 use Rattle.rules.specs.Groups.Marks.{marksLength}

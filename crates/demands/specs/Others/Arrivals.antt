@@ -1,14 +1,8 @@
 -- Document 02, K5: the answer of the call for arrival times, and what it says about all arrivals inside the ranges. "Arrival times count used inputs
 -- only." (K12): the ranges of the others do not matter.
 -- Assumes nothing.
-use Prim.Native.Nat.{ℕ, _+_, _-_, _*_, _≤_, _<_}
-use mathlib.Core.Path.{_≡_, refl, sym, ap, _∙_, subst}
-use mathlib.Core.Bool.{true, false}
-use mathlib.Core.List.{List, map}
-use native.Mathlib.Nat.{le-refl, zero-mul, mul-le-mul, mul-le-mul-right}
-use native.Mathlib.Omega.{arith}
-use lib.ListN.{length, getD, length-map, List·getD-map}
-use lib.Dec.{eqb}
+use Rattle.laws.specs.Prelude.{ℕ, _<_, _≤_, _+_, _-_, _*_, _≡_, _∙_, sym, ap, refl, subst, true, false, List, map, zero-mul, mul-le-mul-right, mul-le-mul}
+use Rattle.laws.specs.Prelude.{le-refl, arith, eqb, length, getD, length-map, List·getD-map}
 use lib.Ieee.Exact.{HasValue}
 use Rattle.rules.specs.Lists.{any}
 use Rattle.rules.specs.Limits.{mostInputs, mostTime, mostDelay}

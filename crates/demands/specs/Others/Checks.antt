@@ -1,15 +1,8 @@
 -- Demand 2, checking and table writing: "the check of a net against a table says yes exactly when they agree on every
 -- assignment", now for "the assignments that aren't open" (document 02, K13). The table sheet written from a net sheet is accepted, and agrees.
 -- Assumes nothing.
-use Prim.Native.Nat.{ℕ, _^_, _≤_, _<_}
-use mathlib.Core.Path.{_≡_, refl, sym, ap, _∙_, subst, subst⁻¹}
-use mathlib.Core.Logic.{_↔_}
-use mathlib.Core.Bool.{Bool, true, false}
-use mathlib.Core.List.{List}
-use native.Mathlib.Nat.{lt-of-not-le}
-use native.Mathlib.Decide.{decLe}
-use native.Mathlib.Omega.{arith}
-use lib.ListN.{length, getD}
+use Rattle.laws.specs.Prelude.{ℕ, _<_, _≤_, _^_, _≡_, _∙_, sym, ap, refl, subst, subst⁻¹, _↔_, true, false, Bool, List, lt-of-not-le, decLe, arith, length}
+use Rattle.laws.specs.Prelude.{getD}
 use Rattle.rules.specs.Lists.{same}
 use Rattle.rules.specs.Sheets.Sheets.{Header, Net, Table}
 use Rattle.rules.specs.Sheets.Printed.{printedTable}

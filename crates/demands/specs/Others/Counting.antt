@@ -1,13 +1,6 @@
 -- What the result of the multiplicity call means: the fewest values that a wire in place of the group can carry.
 -- Assumes nothing.
-use Prim.Native.Nat.{ℕ, _^_, _≤_, _<_}
-use mathlib.Core.Path.{_≡_, refl, sym, subst}
-use mathlib.Core.Logic.{_↔_}
-use mathlib.Core.Bool.{Bool, true, false, _||_}
-use mathlib.Core.List.{List}
-use native.Mathlib.Omega.{arith}
-use borrow.Author.Tests.{leb-false}
-use lib.Dec.{eqb, leb}
+use Rattle.laws.specs.Prelude.{ℕ, _<_, _≤_, _^_, _≡_, sym, refl, subst, _↔_, true, false, Bool, _||_, List, arith, eqb, leb, leb-false}
 use Rattle.rules.specs.Groups.Groups.{multiplicity}
 use Rattle.rules.specs.Calls.Answers.{Answer, accepted, refused, inkIn, onward}
 use Rattle.rules.specs.Calls.OpenCells.{fullCells}

@@ -1,15 +1,8 @@
 -- Document 02, K11: what the glyph call prints, and that nets that settle alike print the same glyph.
 -- Assumes nothing.
-use Prim.Native.Nat.{ℕ, _+_, _*_, _≤_, _<_}
-use mathlib.Core.Path.{_≡_, refl, sym, ap, _∙_}
-use mathlib.Core.Bool.{Bool, true, false}
-use mathlib.Core.List.{List, _++_, map}
-use native.Mathlib.Nat.{add-zero, mul-comm}
-use native.Mathlib.Omega.{arith}
-use lib.ListN.{length, getD, drop, replicate, length-append, length-drop, List·getD-append}
-use lib.Seq.{drop-append-seam}
+use Rattle.laws.specs.Prelude.{ℕ, _<_, _≤_, _+_, _*_, _≡_, _∙_, sym, ap, refl, true, false, Bool, List, _++_, map, add-zero, mul-comm, arith, length, getD}
+use Rattle.laws.specs.Prelude.{drop, length-append, replicate, length-drop, List·getD-append, drop-append-seam, digits-lt}
 use lib.IntN.{ℤ, pos, _+ℤ_}
-use lib.Arith.{digits-lt}
 use Rattle.rules.specs.Lists.{range, concatMap}
 use Rattle.rules.specs.Sheets.Sheets.{Net, Table}
 use Rattle.rules.specs.Sheets.SheetRules.{NetRules}

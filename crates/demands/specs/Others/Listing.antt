@@ -2,13 +2,8 @@
 -- last line .. none is left". On an accepted sheet there are as many turns as gates, "from 1 to n − 1" (document 02, K12): the lines given at
 -- them, each with its line feed, are everything after the first four lines, and every later turn gives none.
 -- Assumes nothing.
-use Prim.Native.Nat.{ℕ, zero, suc, _+_, _≤_, _<_}
-use mathlib.Core.Path.{_≡_, refl, sym, ap, ap₂, _∙_}
-use mathlib.Core.List.{List, [], _∷_, _++_}
-use native.Mathlib.Nat.{zero-add, add-zero, add-suc, suc-add}
-use native.Mathlib.Omega.{arith}
-use lib.ListN.{length, getD}
-use borrow.Author.Tests.{lt-ltb, le-ltb}
+use Rattle.laws.specs.Prelude.{ℕ, _<_, _≤_, _+_, suc, zero, _≡_, _∙_, sym, ap, refl, ap₂, List, [], _∷_, _++_, zero-add, add-zero, suc-add, add-suc, arith}
+use Rattle.laws.specs.Prelude.{length, getD, lt-ltb, le-ltb}
 use Rattle.rules.specs.Lists.{range, concatMap}
 use Rattle.rules.specs.Text.{text}
 use Rattle.rules.specs.Sheets.Sheets.{Gate, Net}

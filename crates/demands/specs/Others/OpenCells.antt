@@ -1,16 +1,8 @@
 -- Document 02, K13: "Everything that counts classes, marks groups or fills gates needs a full table". Each such call refuses with 27 exactly if
 -- some cell is open, at the lowest such index, provided everything judged before it passes; and it then leaves every buffer unchanged.
 -- Assumes nothing.
-use Prim.Native.Nat.{ℕ, _^_, _≤_, _<_}
-use mathlib.Core.Path.{_≡_, refl, sym, ap, _∙_, subst}
-use mathlib.Core.Logic.{_↔_, Iff·trans}
-use mathlib.Core.Bool.{Bool, true, false, _||_, true≢false}
-use mathlib.Core.List.{List, [], _∷_}
-use native.Mathlib.Nat.{lt-of-not-le}
-use native.Mathlib.Decide.{decLe, decLt}
-use native.Mathlib.Omega.{arith}
-use lib.ListN.{length, getD}
-use lib.Dec.{eqb, leb, ltb}
+use Rattle.laws.specs.Prelude.{ℕ, _<_, _≤_, _^_, _≡_, _∙_, sym, ap, refl, subst, _↔_, Iff·trans, true, false, Bool, true≢false, _||_, List, [], _∷_}
+use Rattle.laws.specs.Prelude.{lt-of-not-le, decLt, decLe, arith, eqb, ltb, leb, length, getD}
 use Rattle.rules.specs.Lists.{any}
 use Rattle.rules.specs.Sheets.Sheets.{Net, Table}
 use Rattle.rules.specs.Groups.Marks.{marksLength}

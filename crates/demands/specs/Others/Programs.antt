@@ -2,10 +2,7 @@
 -- makes. A refusal prints the line `number place`, then the two decimal values." Their buffers have the largest length that any sheet
 -- needs, so what a program prints is the settled sheet, or the refusal of its sheet or of its table.
 -- Assumes nothing.
-use Prim.Native.Nat.{ℕ, _≤_}
-use mathlib.Core.Path.{_≡_, sym, ap}
-use mathlib.Core.List.{List}
-use lib.ListN.{length, take, length-replicate}
+use Rattle.laws.specs.Prelude.{ℕ, _≤_, _≡_, sym, ap, List, le-of-eq, length, take, length-replicate}
 use Rattle.rules.specs.Limits.{mostInputs, mostCells, mostSettled, mostRead}
 use Rattle.rules.specs.Sheets.Sheets.{Net, Table}
 use Rattle.rules.specs.Sheets.Printed.{printedNet}
@@ -22,7 +19,6 @@ use Rattle.laws.specs.Calls.Answers.{accepted-inj, not-refused}
 use Rattle.demands.specs.Numbers.Numbers.{Gives}
 use Rattle.demands.specs.Settling.Makes.{HasTree, Making, no-tree, some-tree}
 use Rattle.demands.specs.Sheets.Lengths.{mostMarks, Ample, tableOrTree, settle-ample, make-ample, settle-ample-numbers, make-ample-numbers}
-use native.Mathlib.Nat.{le-of-eq}
 
 -- ---- what is printed for a call
 

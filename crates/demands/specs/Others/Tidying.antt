@@ -1,16 +1,8 @@
 -- Document 02, K8, on tidying: "A strict sheet comes back unchanged, and a tidied sheet has, at each assignment, the ink of the row that named it.
 -- Two accepted loose sheets with the same first three lines, spaces aside, tidy to equal bytes exactly when they give every assignment the same ink."
 -- Assumes nothing.
-use Prim.Native.Nat.{ℕ, _^_, _≤_, _<_}
-use mathlib.Core.Path.{_≡_, refl, sym, ap, _∙_, subst, subst⁻¹}
-use mathlib.Core.Logic.{_↔_}
-use mathlib.Core.List.{List, [], _∷_, _++_, map}
-use native.Mathlib.Nat.{zero-add, lt-of-not-le}
-use native.Mathlib.Decide.{decLe}
-use native.Mathlib.Omega.{arith}
-use lib.ListN.{length, getD, take, length-append}
-use lib.Seq.{take-at}
-use lib.Dec.{ltb}
+use Rattle.laws.specs.Prelude.{ℕ, _<_, _≤_, _^_, _≡_, _∙_, sym, ap, refl, subst, subst⁻¹, _↔_, List, [], _∷_, _++_, map, zero-add, lt-of-not-le, decLe}
+use Rattle.laws.specs.Prelude.{arith, ltb, length, getD, take, length-append, take-at}
 use Rattle.rules.specs.Text.{text, decimal}
 use Rattle.rules.specs.Lists.{range}
 use Rattle.rules.specs.Sheets.Sheets.{Header, Table, levelsAt}

@@ -1,12 +1,7 @@
 -- Document 02, K14, for the family of a table's trees: two full table sheets, one a renaming of the other's inks, have equally many trees, and under
 -- every number sheets that differ only by the renaming in the last table.
 -- Assumes nothing.
-use Prim.Native.Nat.{ℕ, _^_, _≤_, _<_}
-use mathlib.Core.Path.{_≡_, ap, _∙_, subst}
-use mathlib.Core.List.{List}
-use native.Mathlib.Decide.{decLt}
-use native.Mathlib.Omega.{arith}
-use lib.ListN.{length, take}
+use Rattle.laws.specs.Prelude.{ℕ, _<_, _≤_, _^_, _≡_, _∙_, ap, subst, List, decLt, arith, length, take}
 use Rattle.rules.specs.Sheets.Sheets.{Table}
 use Rattle.rules.specs.Sheets.Printed.{printedNet}
 use Rattle.rules.specs.Groups.Marks.{marksLength, storedMarks}

@@ -2,14 +2,8 @@
 -- the same number and place, or kept for both. Then the two sheets differ only by the renaming in the last table, and the sets of the gates that
 -- changed agree except for the last gate.
 -- Assumes nothing.
-use Prim.Native.Nat.{ℕ, suc, _^_, _≤_, _<_}
-use mathlib.Core.Path.{_≡_, refl, sym, ap, _∙_, subst, subst⁻¹}
-use mathlib.Core.Logic.{_≢_}
-use mathlib.Core.Bool.{Bool, true, false}
-use mathlib.Core.List.{List}
-use native.Mathlib.Nat.{lt-of-not-le}
-use native.Mathlib.Decide.{decLe}
-use lib.ListN.{length, take}
+use Rattle.laws.specs.Prelude.{ℕ, _<_, _≤_, _^_, suc, _≡_, _∙_, sym, ap, refl, subst, subst⁻¹, _≢_, true, false, Bool, List, lt-of-not-le, decLe, length}
+use Rattle.laws.specs.Prelude.{take}
 use Rattle.rules.specs.Sheets.Sheets.{Header, Net, Table}
 use Rattle.rules.specs.Sheets.Printed.{printedNet}
 use Rattle.rules.specs.Groups.Groups.{member}

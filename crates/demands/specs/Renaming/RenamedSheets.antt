@@ -2,10 +2,7 @@
 -- levels", and two net sheets where "their gate lines agree in left and right throughout and in every table but the last. The last tables differ by
 -- that renaming at each digit that some assignment reaches." Stated for the sheets' bytes.
 -- Assumes nothing.
-use Prim.Native.Nat.{ℕ, _^_, _<_}
-use mathlib.Core.Path.{_≡_, refl, sym, ap, _∙_, subst⁻¹}
-use mathlib.Core.List.{List, map}
-use lib.ListN.{length, length-append, length-map}
+use Rattle.laws.specs.Prelude.{ℕ, _<_, _^_, _≡_, _∙_, sym, ap, refl, subst⁻¹, List, map, length, length-append, length-map}
 use Rattle.rules.specs.Text.{digitByte}
 use Rattle.rules.specs.Sheets.Sheets.{Header, Gate, Net, Table}
 use Rattle.rules.specs.Sheets.Printed.{printedNet}

@@ -3,12 +3,7 @@
 -- agree in left and right throughout and in every table but the last. The last tables differ by that renaming at each digit that some assignment
 -- reaches. Shallow nets keep it too." They are refused with the same number and place, and leave the same marks.
 -- Assumes nothing.
-use Prim.Native.Nat.{ℕ, _^_, _≤_, _<_}
-use mathlib.Core.Path.{_≡_, refl, sym, ap, _∙_, subst, subst⁻¹}
-use mathlib.Core.List.{List}
-use native.Mathlib.Decide.{ℕ-discrete}
-use native.Mathlib.Omega.{arith}
-use lib.ListN.{length, take}
+use Rattle.laws.specs.Prelude.{ℕ, _<_, _≤_, _^_, _≡_, _∙_, sym, ap, refl, subst, subst⁻¹, List, ℕ-discrete, arith, length, take}
 use Rattle.rules.specs.Sheets.Sheets.{Net, Table}
 use Rattle.rules.specs.Sheets.Printed.{printedNet}
 use Rattle.rules.specs.Groups.Groups.{wholeGroup}

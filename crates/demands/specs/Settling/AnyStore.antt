@@ -3,15 +3,8 @@
 -- another. For two ways, with a marks buffer that is long enough for each, the answer, the cells and the output are the same. If the buffer is short,
 -- each refuses with 14, at the length that its own way needs.
 -- Assumes nothing.
-use Prim.Native.Nat.{ℕ, _^_, _≤_, _<_}
-use mathlib.Core.Path.{_≡_, refl, sym, ap, _∙_, subst⁻¹, subst₂}
-use mathlib.Core.Bool.{Bool, true, false}
-use mathlib.Core.List.{List, []}
-use native.Mathlib.Nat.{lt-of-not-le}
-use native.Mathlib.Decide.{decLe}
-use lib.ListN.{length}
-use lib.Dec.{eqb, ltb}
-use borrow.Author.Tests.{lt-ltb, le-ltb}
+use Rattle.laws.specs.Prelude.{ℕ, _<_, _≤_, _^_, _≡_, _∙_, sym, ap, refl, subst⁻¹, subst₂, true, false, Bool, List, [], lt-of-not-le, decLe, eqb, ltb}
+use Rattle.laws.specs.Prelude.{length, lt-ltb, le-ltb}
 use Rattle.rules.specs.Sheets.Sheets.{Net, Table}
 use Rattle.rules.specs.Sheets.Printed.{printedNet}
 use Rattle.rules.specs.Groups.Groups.{wholeGroup}

@@ -1,11 +1,7 @@
 -- The demands, for assignments: "An assignment gives each input a level." A table has one row for each, so the statements about indices
 -- (`table-at`, `check-agrees`, `make-refuses`) are statements about assignments.
 -- Assumes nothing.
-use Prim.Native.Nat.{ℕ, _+_, _-_, _^_, _≤_, _<_}
-use mathlib.Core.Path.{_≡_, sym, subst}
-use mathlib.Core.Logic.{_↔_, Iff·trans, Iff·not}
-use mathlib.Core.List.{List}
-use lib.ListN.{length, getD}
+use Rattle.laws.specs.Prelude.{ℕ, _<_, _≤_, _+_, _-_, _^_, _≡_, sym, subst, _↔_, Iff·trans, Iff·not, List, length, getD}
 use Rattle.rules.specs.Sheets.Sheets.{Gate, Header, Net, Table}
 use Rattle.rules.specs.Nets.Value.{withGates, value, valueWith}
 use Rattle.rules.specs.Groups.Marks.{marksLength}

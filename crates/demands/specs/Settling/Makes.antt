@@ -3,13 +3,7 @@
 -- `LeafTrees` says which leaves are possible. "Otherwise making writes the very sheet that settling writes from every accepted net sheet with that
 -- table, the same levels and the same input names in the same order." "Demand 3 now speaks of full tables" (document 02, K13).
 -- Assumes nothing.
-use Prim.Native.Nat.{ℕ, _^_, _≤_, _<_}
-use mathlib.Core.Path.{_≡_, refl, sym, ap, _∙_, subst, subst⁻¹}
-use mathlib.Core.Logic.{_↔_}
-use mathlib.Core.List.{List, [], _∷_}
-use native.Mathlib.Decide.{ℕ-discrete}
-use lib.ListN.{length}
-use lib.Dec.{ltb}
+use Rattle.laws.specs.Prelude.{ℕ, _<_, _≤_, _^_, _≡_, _∙_, sym, ap, refl, subst, subst⁻¹, _↔_, List, [], _∷_, ℕ-discrete, ltb, length}
 use Rattle.rules.specs.Lists.{any}
 use Rattle.rules.specs.Limits.{mostSettled}
 use Rattle.rules.specs.Sheets.Sheets.{Gate, Net, Table}

@@ -3,13 +3,7 @@
 -- and gate tables, the two settled sheets are equal in length and in every byte exactly when the two nets compute the same
 -- table." (document 02, K12: "equal settling still means equal tables, unused inputs included")
 -- Assumes nothing.
-use Prim.Native.Nat.{ℕ, _^_, _≤_}
-use mathlib.Core.Path.{_≡_, refl, sym, ap, _∙_}
-use mathlib.Core.Logic.{_↔_}
-use mathlib.Core.List.{List}
-use native.Mathlib.Decide.{decLe}
-use native.Mathlib.Omega.{arith}
-use lib.ListN.{length, take}
+use Rattle.laws.specs.Prelude.{ℕ, _≤_, _^_, _≡_, _∙_, sym, ap, refl, _↔_, List, decLe, arith, length, take}
 use Rattle.rules.specs.Limits.{mostSettled}
 use Rattle.rules.specs.Sheets.Sheets.{Net, Table}
 use Rattle.rules.specs.Sheets.Printed.{printedNet}

@@ -1,11 +1,6 @@
 -- The marks buffer that a call wrote: every group's mark can be read from it, whatever it held before.
 -- Assumes nothing.
-use Prim.Native.Nat.{ℕ, _*_, _^_, _<_}
-use mathlib.Core.Path.{_≡_, sym, ap, _∙_}
-use mathlib.Core.Bool.{true}
-use mathlib.Core.List.{List}
-use native.Mathlib.Omega.{arith}
-use lib.ListN.{length, take}
+use Rattle.laws.specs.Prelude.{ℕ, _<_, _^_, _*_, _≡_, _∙_, sym, ap, true, List, arith, length, take}
 use Rattle.rules.specs.Limits.{sizeFits}
 use Rattle.rules.specs.Groups.Marks.{markIn, marksOf, marksLength, storedMarks, markStored, unpacked}
 use Rattle.rules.specs.Calls.Answers.{written}

@@ -2,11 +2,7 @@
 -- Demand 3: "making refuses the table as having no tree exactly when no fanout-free tree of two-input gates .. computes it, whatever the
 -- tree's wiring and gate tables", and whatever its leaves: "inputs may stay unused" (document 02, K12). `LeafTrees` says which leaves are possible.
 -- Assumes nothing.
-use Prim.Native.Nat.{ℕ, _^_, _≤_, _<_}
-use mathlib.Core.Path.{_≡_, sym, _∙_}
-use mathlib.Core.Logic.{_↔_, Iff·trans, Iff·symm, Iff·not}
-use mathlib.Core.List.{List}
-use lib.ListN.{length}
+use Rattle.laws.specs.Prelude.{ℕ, _<_, _≤_, _^_, _≡_, _∙_, sym, _↔_, Iff·trans, Iff·not, Iff·symm, List, length}
 use Rattle.rules.specs.Sheets.Sheets.{Net, Table, levelsAt}
 use Rattle.rules.specs.Groups.Marks.{marksLength}
 use Rattle.rules.specs.Sheets.SheetRules.{HeaderRules}

@@ -1,9 +1,7 @@
 -- Document 02, K2: "Among equally shallow trees each group takes the part A of lowest number that keeps its own group shallowest." An example: a
 -- group that could be deeper without deepening the whole is still as shallow as it can be.
 -- Assumes nothing.
-use Prim.Native.Nat.{ℕ, _+_, _-_, _*_, _%_}
-use mathlib.Core.Path.{refl}
-use lib.ListN.{getD}
+use Rattle.laws.specs.Prelude.{ℕ, _+_, _-_, _*_, _%_, refl, getD}
 use Rattle.rules.specs.Sheets.Sheets.{Table}
 use Rattle.rules.specs.Cases.ShallowCases.{ShallowHolds, makes, on, wroteIn}
 use Rattle.rules.specs.Cases.Written.{lineEnds, paper, letterNames, byRule}

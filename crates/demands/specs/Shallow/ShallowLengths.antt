@@ -1,8 +1,6 @@
 -- The buffers that shallow settling and making need are those of settling and making: "otherwise as document 01 has them".
 -- Assumes nothing.
-use mathlib.Core.Path.{_≡_}
-use mathlib.Core.List.{List}
-use Prim.Native.Nat.{ℕ}
+use Rattle.laws.specs.Prelude.{ℕ, _≡_, List}
 use Rattle.rules.specs.Sheets.Sheets.{Table}
 use Rattle.rules.specs.Calls.Answers.{accepted}
 use Rattle.rules.specs.Calls.ShallowSettling.{shallowNet, settleShallowCall, makeShallowCall}

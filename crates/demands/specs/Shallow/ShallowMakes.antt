@@ -1,12 +1,7 @@
 -- Document 02, shallow making: "Every other tree computing that table has at least as many layers, and the answer carries the count." What shallow
 -- making writes is an accepted net sheet with exactly the table and as many layers as it returns, and no net with that table has fewer.
 -- Assumes nothing.
-use Prim.Native.Nat.{ℕ, _^_, _≤_, _<_}
-use mathlib.Core.Path.{_≡_, refl, sym, ap, _∙_}
-use mathlib.Core.List.{List}
-use native.Mathlib.Omega.{arith}
-use native.Mathlib.Decide.{decLt, ℕ-discrete}
-use lib.ListN.{length, take}
+use Rattle.laws.specs.Prelude.{ℕ, _<_, _≤_, _^_, _≡_, _∙_, sym, ap, refl, List, decLt, ℕ-discrete, arith, length, take}
 use Rattle.rules.specs.Limits.{mostSettled}
 use Rattle.rules.specs.Sheets.Sheets.{Gate, Net, Table}
 use Rattle.rules.specs.Sheets.Printed.{printedNet}

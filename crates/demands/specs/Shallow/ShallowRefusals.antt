@@ -2,10 +2,7 @@
 -- count of layers, and leave the same cells and marks; so they refuse exactly when those do, with the same number and place, and change no other
 -- buffer. This holds for 15 too: net sheets with one header and the same leaves have the same length.
 -- Assumes nothing.
-use Prim.Native.Nat.{ℕ}
-use mathlib.Core.Path.{_≡_, refl, ap}
-use mathlib.Core.Logic.{_↔_}
-use mathlib.Core.List.{List}
+use Rattle.laws.specs.Prelude.{ℕ, _≡_, ap, refl, _↔_, List}
 use Rattle.rules.specs.Sheets.Sheets.{Net, Table}
 use Rattle.rules.specs.Calls.Answers.{Answer, accepted, refused, onward}
 use Rattle.rules.specs.Sheets.Reading.{readNet, tableOfNet}

@@ -2,11 +2,7 @@
 -- many layers as it returns, and no net with that table has fewer. It depends only on the table and the first three lines; shallow making
 -- writes the same.
 -- Assumes nothing.
-use Prim.Native.Nat.{ℕ, _≤_}
-use mathlib.Core.Path.{_≡_, sym, ap, _∙_}
-use mathlib.Core.Logic.{_↔_}
-use mathlib.Core.List.{List}
-use lib.ListN.{length}
+use Rattle.laws.specs.Prelude.{ℕ, _≤_, _≡_, _∙_, sym, ap, _↔_, List, length}
 use Rattle.rules.specs.Limits.{mostSettled}
 use Rattle.rules.specs.Sheets.Sheets.{Gate, Net, Table}
 use Rattle.rules.specs.Sheets.Printed.{printedNet}

@@ -1,12 +1,7 @@
 -- Document 02: the call that "takes two net sheets and hands back the shallower sheet itself, the first when level. An unreadable sheet loses
 -- to a readable one, and two unreadable ones give an empty part of the first".
 -- Assumes nothing.
-use Prim.Native.Nat.{ℕ, _≤_, _<_}
-use mathlib.Core.Path.{_≡_, ap, _∙_}
-use mathlib.Core.List.{List, []}
-use native.Mathlib.Omega.{arith}
-use native.Mathlib.Decide.{decLt}
-use borrow.Author.Tests.{lt-ltb, le-ltb}
+use Rattle.laws.specs.Prelude.{ℕ, _<_, _≤_, _≡_, _∙_, ap, List, [], decLt, arith, lt-ltb, le-ltb}
 use Rattle.rules.specs.Sheets.Sheets.{Net}
 use Rattle.rules.specs.Calls.Answers.{accepted, refused, onward}
 use Rattle.rules.specs.Sheets.Reading.{readNet}

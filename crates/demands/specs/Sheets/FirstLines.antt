@@ -1,11 +1,7 @@
 -- A sheet's first three lines, as bytes. They determine its header: two accepted net sheets have the same first three lines exactly if
 -- they have the same levels, inputs and names.
 -- Assumes nothing.
-use Prim.Native.Nat.{ℕ}
-use mathlib.Core.Path.{_≡_, sym, ap, _∙_}
-use mathlib.Core.Logic.{_↔_}
-use mathlib.Core.List.{List, [], _∷_, _++_, append-assoc}
-use native.Mathlib.Omega.{arith}
+use Rattle.laws.specs.Prelude.{ℕ, _≡_, _∙_, sym, ap, _↔_, List, [], _∷_, _++_, append-assoc, arith}
 use Rattle.rules.specs.Text.{newline, text, decimal}
 use Rattle.rules.specs.Sheets.Fields.{Read, read}
 use Rattle.rules.specs.Sheets.Sheets.{Header, Net, headerLines}

@@ -1,11 +1,6 @@
 -- An accepted sheet of a full table (document 02, K13): which sheets these are, which rules their tables follow, and the numbers that refuse others.
 -- Assumes nothing.
-use Prim.Native.Nat.{ℕ, _^_}
-use mathlib.Core.Path.{_≡_, refl, sym, ap, _∙_, subst}
-use mathlib.Core.Logic.{_↔_}
-use mathlib.Core.List.{List, [], _∷_}
-use native.Mathlib.Omega.{arith}
-use lib.ListN.{length}
+use Rattle.laws.specs.Prelude.{ℕ, _^_, _≡_, _∙_, sym, ap, refl, subst, _↔_, List, [], _∷_, arith, length}
 use Rattle.rules.specs.Lists.{all, any}
 use Rattle.rules.specs.Sheets.Sheets.{Net, Table}
 use Rattle.rules.specs.Sheets.Printed.{printedTable}

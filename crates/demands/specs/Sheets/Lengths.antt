@@ -1,14 +1,7 @@
 -- The lengths that include/sitgurp.h calls "Buffers that always suffice: cells, marks, a net sheet, a table sheet." Each is at least what
 -- any accepted sheet needs, so with buffers of these lengths no call refuses with 13, 14 or 15.
 -- Assumes nothing.
-use Prim.Native.Nat.{ℕ, _^_, _≤_}
-use mathlib.Core.Path.{_≡_, refl, sym, ap, _∙_, subst₂}
-use mathlib.Core.Bool.{Bool, true, false}
-use mathlib.Core.List.{List, [], _∷_}
-use native.Mathlib.Nat.{le-trans}
-use native.Mathlib.Omega.{arith}
-use lib.ListN.{length}
-use borrow.Author.Tests.{le-ltb}
+use Rattle.laws.specs.Prelude.{ℕ, _≤_, _^_, _≡_, _∙_, sym, ap, refl, subst₂, true, false, Bool, List, [], _∷_, le-trans, arith, length, le-ltb}
 use Rattle.rules.specs.Lists.{range, all, any}
 use Rattle.rules.specs.Limits.{cellsFit, mostCells, mostSettled, mostTableSheet}
 use Rattle.rules.specs.Sheets.Sheets.{Header, Net, Table}

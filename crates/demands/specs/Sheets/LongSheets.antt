@@ -1,13 +1,7 @@
 -- Sheets that are longer than what a program reads: "A table sheet of 2 with 12 is longer than the making program's 65,536 bytes: the library takes
 -- it, and the program refuses with 1 at 65,536 a sheet without an earlier fault that hasn't ended by then." (document 02, K6)
 -- Assumes nothing.
-use Prim.Native.Nat.{ℕ, _≤_, _<_}
-use mathlib.Core.Path.{_≡_, ap}
-use mathlib.Core.Logic.{_⊎_, inl, inr}
-use mathlib.Core.List.{List}
-use native.Mathlib.Omega.{arith}
-use lib.ListN.{length, take}
-use lib.Seq.{take-all}
+use Rattle.laws.specs.Prelude.{ℕ, _<_, _≤_, _≡_, ap, _⊎_, inl, inr, List, arith, length, take, take-all}
 use Rattle.rules.specs.Limits.{mostRead}
 use Rattle.rules.specs.Sheets.Sheets.{Net, Table}
 use Rattle.rules.specs.Calls.Answers.{accepted, refused}

@@ -1,13 +1,7 @@
 -- A table sheet's first three lines, as bytes. They determine its header: two accepted table sheets have the same first three lines exactly if they
 -- have the same levels, inputs and names.
 -- Assumes nothing.
-use Prim.Native.Nat.{ℕ, _<_}
-use mathlib.Core.Path.{_≡_, refl, sym, ap, _∙_}
-use mathlib.Core.Logic.{_↔_}
-use mathlib.Core.Bool.{true}
-use mathlib.Core.List.{List, [], _∷_, _++_, append-assoc, append-nil}
-use native.Mathlib.Omega.{arith}
-use lib.ListN.{length}
+use Rattle.laws.specs.Prelude.{ℕ, _<_, _≡_, _∙_, sym, ap, refl, _↔_, true, List, [], _∷_, _++_, append-assoc, append-nil, arith, length}
 use Rattle.rules.specs.Lists.{all, concatMap}
 use Rattle.rules.specs.Text.{space, newline, text, decimal}
 use Rattle.rules.specs.Sheets.Fields.{Read, read}

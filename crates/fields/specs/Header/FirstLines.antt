@@ -1,11 +1,6 @@
 -- The first three lines, field by field.
 -- Assumes nothing.
-use Prim.Native.Nat.{ℕ, _≤_}
-use mathlib.Core.Path.{_≡_, refl, _∙_}
-use mathlib.Core.Bool.{true}
-use mathlib.Core.List.{List, []}
-use borrow.Author.Tests.{le-leb}
-use lib.ListN.{drop}
+use Rattle.laws.specs.Prelude.{ℕ, _≤_, _≡_, _∙_, refl, true, List, [], drop, le-leb}
 use Rattle.rules.specs.Text.{space, newline, text}
 use Rattle.rules.specs.Limits.{levelsFit, inputsFit, cellsFit, sizeFits, fewestInputs, mostInputs}
 use Rattle.rules.specs.Sheets.Fields.{Reader, _>>=_, give, fieldIn, theWord, Layout}
@@ -18,13 +13,14 @@ use Rattle.fields.specs.Steps.{stepAs, spelled}
 use Rattle.fields.specs.Words.{twoWordsIn}
 use Rattle.fields.specs.declared.steps.Step.{Step}
 use Rattle.fields.specs.declared.steps.Step.the-variants.{On, Back}
-use Rattle.fields.specs.Header.NameLine.{NamesRead}
+use Rattle.fields.specs.Header.NameLine.{NamesShort, NamesRead}
 use Rattle.fields.specs.declared.header.name_line.HeaderRead.{HeaderRead}
 
 -- the properties of a header that was read
 pub record HeaderHeld (s : List ℕ) (h : Header) : Type 0 where
   pub fits : sizeFits (h .levels) (h .inputs) ≡ true
   pub names : NamesHeld s h (h .inputs)
+  pub short : NamesShort h (h .inputs)
 
 -- `reader` reads the rest of the first three lines
 pub record HeaderRest (s : List ℕ) (at : ℕ) (reader : Reader sheets.Header) (r : HeaderRead) : Type 0 where
@@ -70,6 +66,7 @@ from-names layout s at m n last r names ml n2 n11 cells =
           record {
             fits = rw (names .levels, names .inputs, ml, le-leb fewestInputs n n2, le-leb n mostInputs n11, cells) refl;
             names = rw (names .inputs) (names .held value next e);
+            short = rw (names .inputs) (names .short value next e);
           };
     }
 

@@ -1,16 +1,7 @@
 -- Line 3, name by name; the first three lines.
 -- Assumes nothing.
-use Prim.Native.Nat.{ℕ, zero, suc, _+_, _-_, _≤_, _<_}
-use mathlib.Core.Path.{_≡_, refl, sym, ap, _∙_}
-use mathlib.Core.Bool.{Bool, true, false}
-use mathlib.Core.List.{List, [], _∷_, _++_, map}
-use native.Mathlib.Omega.{arith}
-use native.Mathlib.Nat.{zero-add, sub-zero}
-use native.Mathlib.Numerals.{add-one}
-use lib.ListN.{length, take, drop, getD, set, length-set}
-use lib.Seq.{getD-set-same, getD-set-other}
-use lib.Dec.{eqb}
-use borrow.Author.Tests.{eqb-true, eqb-false}
+use Rattle.laws.specs.Prelude.{ℕ, _<_, _≤_, _+_, _-_, suc, zero, _≡_, _∙_, sym, ap, refl, true, false, Bool, List, [], _∷_, _++_, map, zero-add, sub-zero}
+use Rattle.laws.specs.Prelude.{add-one, arith, eqb, length, getD, take, drop, set, length-set, getD-set-same, getD-set-other, eqb-true, eqb-false}
 use Rattle.laws.specs.Lists.Concat.{map-append}
 use Rattle.laws.specs.Lists.Ranges.{range-suc, map-range-same}
 use Rattle.laws.specs.Lists.Runs.{run-front}
@@ -55,6 +46,10 @@ due-space i n last h e = sym (ap (λ k. dueBefore k last) some-left)
     some-left : n - (i + 1) ≡ suc (n - (i + 2))
     some-left = omega arith
 
+-- the first `count` names are short
+abbrev pub NamesShort : Header → ℕ → Type 0
+NamesShort h count = (i : ℕ) → i < count → getD (h .lens) i 0 ≤ mostNameBytes
+
 -- reading n names from `at` on, under m levels
 pub record NamesRead (layout : Layout) (s : List ℕ) (at m n last : ℕ) (r : HeaderRead) : Type 0 where
   pub reads : stepAs (λ _. headerOf s (r .header)) s (r .step)
@@ -62,6 +57,7 @@ pub record NamesRead (layout : Layout) (s : List ℕ) (at m n last : ℕ) (r : H
   pub levels : r .header .levels ≡ m
   pub inputs : r .header .inputs ≡ n
   pub held : (value next : ℕ) → r .step ≡ On value next → NamesHeld s (r .header) n
+  pub short : (value next : ℕ) → r .step ≡ On value next → NamesShort (r .header) n
 
 -- ---- a name
 
@@ -71,7 +67,9 @@ unfolding tested judgedFieldIn nameField
 name-read layout s at due earlier w test v r is new e after =
     record {
       reads = field-tested-in (λ len. take len (drop at s)) layout (nameField earlier) due s at w test (length w) 4 v r is e (rw (front, new) refl) after;
-      held = λ len next q. let told = field-on-in s r at len next q layout itself (λ _. judgedAs itself v) due after in go test new len next (ap (judgedAs itself) (sym e) ∙ told .judged) told;
+      held = λ len next q.
+          let told = field-on-in s r at len next q layout itself (λ _. judgedAs itself v) due after in
+          go test new len next (ap (judgedAs itself) (sym e) ∙ told .judged) told;
     }
   where
     front : take (length w) (drop at s) ≡ w
@@ -108,6 +106,7 @@ pub record Reading (layout : Layout) (s : List ℕ) (at m n last : ℕ) (h : Hea
   pub lens : length (h .lens) ≡ mostInputs
   pub most : i ≤ n
   pub held : NamesHeld s h i
+  pub short : NamesShort h i
   pub reads : nameFieldsIn layout last n [] (drop at s) at ≡ nameFieldsIn layout last (n - i) (namesTo s h i) (drop place s) place
 
 pub names-start : (layout : Layout) (s : List ℕ) (at m n last : ℕ) → Reading layout s at m n last (noNames m n) at 0
@@ -120,6 +119,7 @@ names-start layout s at m n last =
       lens = refl;
       most = omega arith;
       held = λ i h. absurd (omega arith);
+      short = λ i h. absurd (omega arith);
       reads = rw (sub-zero n) refl;
     }
 
@@ -140,7 +140,8 @@ names-stay s h i start len hs hl =
   where
     earlier-names : namesTo s (named h i start len) i ≡ namesTo s h i
     earlier-names = map-range-same (nameIn s (named h i start len)) (nameIn s h) 0 i
-        (λ k _ below. λ j. take (getD-set-other (h .lens) i k len 0 (λ q. omega (arith, q)) j) (drop (getD-set-other (h .starts) i k start 0 (λ q. omega (arith, q)) j) s))
+        (λ k _ below. λ j. take (getD-set-other (h .lens) i k len 0 (λ q. omega (arith, q)) j)
+        (drop (getD-set-other (h .starts) i k start 0 (λ q. omega (arith, q)) j) s))
 
     last-name : nameIn s (named h i start len) (0 + i) ≡ take len (drop start s)
     last-name = rw (zero-add i, getD-set-same (h .lens) i len 0 hl, getD-set-same (h .starts) i start 0 hs) refl
@@ -155,6 +156,13 @@ names-held s h i start len hs hl held fits k below = go (eqb k i) refl
         let other = eqb-false k i q in
         rw (getD-set-other (h .starts) i k start 0 other, getD-set-other (h .lens) i k len 0 other) (held k (omega arith))
 
+names-short : (h : Header) (i start len : ℕ) → i < length (h .lens) → NamesShort h i → len ≤ mostNameBytes → NamesShort (named h i start len) (i + 1)
+names-short h i start len hl short fits k below = go (eqb k i) refl
+  where
+    go : (t : Bool) → eqb k i ≡ t → getD (set (h .lens) i len) k 0 ≤ mostNameBytes
+    go true q = rw (eqb-true k i q, getD-set-same (h .lens) i len 0 hl) fits
+    go false q = rw (getD-set-other (h .lens) i k len 0 (eqb-false k i q)) (short k (omega (arith, eqb-false k i q)))
+
 module _ (layout : Layout) (s : List ℕ) (at m n last : ℕ) (h : Header) (place i : ℕ) (reading : Reading layout s at m n last h place i) where
   pub names-done : n ≤ i → NamesRead layout s at m n last (record { step = On 0 place; header = h })
   unfolding nameFieldsIn then headerOf
@@ -164,6 +172,7 @@ module _ (layout : Layout) (s : List ℕ) (at m n last : ℕ) (h : Header) (plac
         levels = reading .levels;
         inputs = reading .inputs;
         held = λ _ _ _ k below. reading .held k (omega (arith, below));
+        short = λ _ _ _ k below. reading .short k (omega (arith, below));
       }
     where
       none-left : n - i ≡ 0
@@ -190,6 +199,7 @@ module _ (layout : Layout) (s : List ℕ) (at m n last : ℕ) (h : Header) (plac
           levels = reading .levels;
           inputs = reading .inputs;
           held = λ value next q. absurd (never-both r number back value next e q);
+          short = λ value next q. absurd (never-both r number back value next e q);
         }
 
     pub names-next : (len next : ℕ) → n ≤ mostInputs → r ≡ On len next → Reading layout s at m n last (named h i place len) next (i + 1)
@@ -204,5 +214,6 @@ module _ (layout : Layout) (s : List ℕ) (at m n last : ℕ) (h : Header) (plac
           held =
               names-held s h i place len (omega (arith, reading .starts)) (omega (arith, reading .lens)) (reading .held)
               (name .held len next e .1);
+          short = names-short h i place len (omega (arith, reading .lens)) (reading .short) (name .held len next e .0);
           reads = rw (onward, e, names-stay s h i place len (omega (arith, reading .starts)) (omega (arith, reading .lens))) refl;
         }

@@ -1,16 +1,7 @@
 -- A name's bytes, one by one; a name that is new.
 -- Assumes nothing.
-use Prim.Native.Nat.{ℕ, _+_, _≤_, _<_}
-use mathlib.Core.Path.{_≡_, refl, _∙_}
-use mathlib.Core.Bool.{Bool, true, false, not, _&&_, _||_, and-eq-true-iff, false≢true}
-use mathlib.Core.List.{List, [], _∷_}
-use mathlib.Core.Logic.{by-cases}
-use native.Mathlib.Decide.{decLe}
-use native.Mathlib.Nat.{lt-of-not-le}
-use native.Mathlib.Omega.{arith}
-use lib.ListN.{length, getD}
-use lib.Dec.{leb, ltb}
-use borrow.Author.Tests.{le-leb, lt-leb, lt-ltb, le-ltb}
+use Rattle.laws.specs.Prelude.{ℕ, _<_, _≤_, _+_, _≡_, _∙_, refl, by-cases, true, false, Bool, _&&_, not, and-eq-true-iff, _||_, false≢true, List, [], _∷_}
+use Rattle.laws.specs.Prelude.{lt-of-not-le, decLe, arith, ltb, leb, length, getD, lt-ltb, le-ltb, le-leb, lt-leb}
 use Rattle.rules.specs.Lists.{all, any, same}
 use Rattle.rules.specs.Text.{isDigit, text, zeroByte}
 use Rattle.rules.specs.Sheets.Sheets.{isLetter, letterFirst, isName}

@@ -1,10 +1,6 @@
 -- Two headers compared, name by name.
 -- Assumes nothing.
-use Prim.Native.Nat.{ℕ, _+_, _-_, _≤_, _<_}
-use mathlib.Core.Path.{_≡_, ap}
-use mathlib.Core.Bool.{Bool, true, false, and-false}
-use mathlib.Core.List.{List, map}
-use borrow.Author.Tests.{eq-eqb, ne-eqb}
+use Rattle.laws.specs.Prelude.{ℕ, _<_, _≤_, _+_, _-_, _≡_, ap, true, false, Bool, and-false, List, map, eq-eqb, ne-eqb}
 use Rattle.rules.specs.Lists.{range, same}
 use Rattle.rules.specs.Calls.Checking.{sameNames, sameHeader}
 use Rattle.laws.specs.Lists.Ranges.{range-next, range-none}

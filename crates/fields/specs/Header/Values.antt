@@ -1,13 +1,8 @@
 -- The levels field, by its byte; the inputs field, by the number whose decimal value it is.
 -- Assumes nothing.
-use Prim.Native.Nat.{ℕ, _+_, _-_, _^_, _≤_, _<_}
-use mathlib.Core.Path.{_≡_, refl, sym, ap, _∙_}
-use mathlib.Core.Bool.{and-false}
+use Rattle.laws.specs.Prelude.{ℕ, _<_, _≤_, _+_, _-_, _^_, _≡_, _∙_, sym, ap, refl, and-false, List, [], _∷_, arith, length, getD, lt-ltb, le-ltb, le-leb}
+use Rattle.laws.specs.Prelude.{lt-leb}
 use mathlib.Core.Option.{some}
-use mathlib.Core.List.{List, [], _∷_}
-use native.Mathlib.Omega.{arith}
-use lib.ListN.{length, getD}
-use borrow.Author.Tests.{le-leb, lt-leb, lt-ltb, le-ltb}
 use Rattle.rules.specs.Text.{isDigit, zeroByte}
 use Rattle.rules.specs.Limits.{levelsFit, fewestInputs, mostInputs, cellsFit, mostCells, fewestLevels, mostLevels}
 use Rattle.rules.specs.Sheets.Fields.{good, bad}
@@ -37,7 +32,12 @@ module _ (w : List ℕ) (e : length w ≡ 1) where
   unfolding levelsField isDigit levelsFit
   levels-good h k =
       let b = getD w 0 0 in
-      rw (one-byte w e) (simp (le-leb zeroByte b (omega arith), lt-ltb b (zeroByte + 10) (omega arith), le-leb fewestLevels (b - zeroByte) (omega arith), le-leb (b - zeroByte) mostLevels (omega arith)))
+      rw (one-byte w e) (simp (
+        le-leb zeroByte b (omega arith),
+        lt-ltb b (zeroByte + 10) (omega arith),
+        le-leb fewestLevels (b - zeroByte) (omega arith),
+        le-leb (b - zeroByte) mostLevels (omega arith),
+      ))
 
 inputs-range : (w : List ℕ) (n : ℕ) → inputsOf w ≡ some n → (fewestInputs ≤ n) × (n ≤ mostInputs)
 unfolding inputsOf

@@ -9,7 +9,6 @@ ghost use Rattle.nets.specs.Forms.{nameIn, NamesHeld};
 ghost use Rattle.fields.specs.Header.Names.{isNameByte, isNew};
 use crate::same::same_bytes;
 use nets::forms::Header;
-use nets::names::name_of;
 use radix::limits;
 
 // Tests whether b is a lowercase letter.
@@ -75,7 +74,9 @@ pub fn is_repeated(s: &[u8], header: Header, count: usize, w: &[u8]) -> bool
 {
     let mut i: usize = 0;
     while i < count {
-        if same_bytes(w, name_of(s, header, i)) {
+        let start = header.starts[i];
+        let end = start + header.lens[i] as usize;
+        if same_bytes(w, &s[start..end]) {
             return true;
         }
         i += 1;

@@ -1,11 +1,6 @@
 -- Laws of answers, and of a buffer after it is written.
 -- Assumes nothing.
-use Prim.Native.Nat.{ℕ}
-use mathlib.Core.Path.{_≡_, refl}
-use mathlib.Core.List.{List}
-use native.Mathlib.Omega.{arith}
-use lib.ListN.{length, take, drop}
-use lib.Seq.{take-at}
+use Rattle.laws.specs.Prelude.{ℕ, _≡_, refl, List, arith, length, take, drop, take-at}
 use Rattle.rules.specs.Calls.Answers.{accepted, refused, written}
 
 pub accepted-inj : {A : Type 0} (a b : A) → accepted a ≡ accepted b → a ≡ b

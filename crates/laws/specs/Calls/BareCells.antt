@@ -1,13 +1,7 @@
 -- The verdict on bare cells, one law for each outcome, and what follows if they are accepted.
 -- Assumes nothing.
-use Prim.Native.Nat.{ℕ, _^_, _≤_, _<_}
-use mathlib.Core.Path.{_≡_, refl, sym, ap, _∙_}
-use mathlib.Core.Bool.{Bool, true, false, not, and-false}
-use mathlib.Core.List.{List}
-use native.Mathlib.Omega.{arith}
-use lib.Dec.{eqb, leb}
-use lib.ListN.{length, getD}
-use borrow.Author.Tests.{eqb-true, eqb-false, eq-eqb, ne-eqb, lt-ltb, le-ltb, le-leb}
+use Rattle.laws.specs.Prelude.{ℕ, _<_, _≤_, _^_, _≡_, _∙_, sym, ap, refl, true, false, Bool, not, and-false, List, arith, eqb, leb, length, getD}
+use Rattle.laws.specs.Prelude.{eq-eqb, eqb-true, ne-eqb, lt-ltb, le-ltb, eqb-false, le-leb}
 use Rattle.rules.specs.Lists.{all, firstPlace}
 use Rattle.rules.specs.Limits.{sizeFits}
 use Rattle.rules.specs.Sheets.Sheets.{Table}

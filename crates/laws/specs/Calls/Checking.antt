@@ -1,20 +1,12 @@
 -- The result of checking, one law for each outcome, and how a comparison of two lists of inks ends.
 -- Assumes nothing.
-use Prim.Native.Nat.{ℕ, _≤_, _<_}
-use mathlib.Core.Path.{_≡_, refl, ap₂, _∙_, subst, subst⁻¹}
-use mathlib.Core.List.{List, [], _∷_}
-use mathlib.Core.Bool.{true, false, Bool, not, _&&_, and-eq-true-iff, false≢true}
-use lib.ListN.{length, getD}
-use borrow.Author.Tests.{lt-ltb, le-ltb, eq-eqb, eqb-true, eqb-false, not-false, not-true}
+use Rattle.laws.specs.Prelude.{ℕ, _<_, _≤_, _≡_, _∙_, refl, subst, ap₂, subst⁻¹, true, false, Bool, _&&_, not, and-eq-true-iff, false≢true, List, []}
+use Rattle.laws.specs.Prelude.{_∷_, zero-add, decLt, arith, eqb, length, getD, eq-eqb, eqb-true, lt-ltb, le-ltb, eqb-false, not-true, not-false}
 use Rattle.rules.specs.Sheets.Sheets.{Header, Net, Table}
 use Rattle.rules.specs.Calls.Answers.{accepted, refused, written, netNamed, tableNamed, neither}
 use Rattle.rules.specs.Sheets.Reading.{readNet, readTable, tableOfNet}
 use Rattle.rules.specs.Calls.OpenCells.{isOpen}
 use Rattle.rules.specs.Calls.Checking.{turnedDown, checkCall, sameNames, sameHeader, compared, checkedInto, agree, differ}
-use native.Mathlib.Nat.{zero-add}
-use native.Mathlib.Decide.{decLt}
-use native.Mathlib.Omega.{arith}
-use lib.Dec.{eqb}
 use Rattle.rules.specs.Lists.{range, firstPlace, same}
 use Rattle.laws.specs.Calls.OpenCells.{not-open, shut-ink}
 use Rattle.laws.specs.Lists.FirstPlaces.{before-first, at-first}

@@ -1,14 +1,8 @@
 -- The result of the glyph call, one law for each outcome; and what it means, in inequalities, that a picture and offsets pass.
 -- Assumes nothing.
-use Prim.Native.Nat.{ℕ, _*_, _≤_, _<_}
-use mathlib.Core.Path.{_≡_}
-use mathlib.Core.Logic.{_↔_}
-use mathlib.Core.Bool.{true, false, _&&_, and-eq-true-iff}
-use mathlib.Core.List.{List}
-use lib.ListN.{length, getD}
+use Rattle.laws.specs.Prelude.{ℕ, _<_, _≤_, _*_, _≡_, _↔_, true, false, _&&_, and-eq-true-iff, List, eqb, ltb, leb, length, getD, eq-eqb, eqb-true}
+use Rattle.laws.specs.Prelude.{lt-ltb, le-ltb, le-leb, leb-true, ltb-true}
 use lib.IntN.{ℤ, pos, natAbs}
-use lib.Dec.{eqb, leb, ltb}
-use borrow.Author.Tests.{lt-ltb, le-ltb, ltb-true, leb-true, le-leb, eqb-true, eq-eqb}
 use Rattle.rules.specs.Lists.{all}
 use Rattle.rules.specs.Sheets.Sheets.{Net}
 use Rattle.rules.specs.Calls.Answers.{accepted, refused, written}

@@ -1,11 +1,6 @@
 -- The result of the multiplicity call, one law for each outcome.
 -- Assumes nothing.
-use Prim.Native.Nat.{ℕ, _^_, _≤_, _<_}
-use mathlib.Core.Path.{_≡_}
-use mathlib.Core.Bool.{true, false, _||_, or-true}
-use mathlib.Core.List.{List}
-use lib.Dec.{eqb, leb}
-use borrow.Author.Tests.{eq-eqb, ne-eqb, le-leb, lt-leb}
+use Rattle.laws.specs.Prelude.{ℕ, _<_, _≤_, _^_, _≡_, true, false, _||_, or-true, List, eqb, leb, eq-eqb, ne-eqb, le-leb, lt-leb}
 use Rattle.rules.specs.Groups.Groups.{multiplicity}
 use Rattle.rules.specs.Calls.Answers as answers
 use Rattle.rules.specs.Calls.Answers.{inkIn}

@@ -1,14 +1,8 @@
 -- The result of requiring a table without open cells: 27 at the lowest open index, or no cell is open. One law for each outcome, for a
 -- list of cells, for bare cells and for a table sheet.
 -- Assumes nothing.
-use Prim.Native.Nat.{ℕ, _^_, _≤_, _<_}
-use mathlib.Core.Path.{_≡_, refl, sym, _∙_}
-use mathlib.Core.Bool.{true, false}
-use mathlib.Core.List.{List}
-use native.Mathlib.Decide.{decLt}
-use native.Mathlib.Omega.{arith}
-use lib.ListN.{length, getD}
-use borrow.Author.Tests.{eqb-true, eqb-false, eq-eqb, ne-eqb, lt-ltb, le-ltb, leb-true}
+use Rattle.laws.specs.Prelude.{ℕ, _<_, _≤_, _^_, _≡_, _∙_, sym, refl, true, false, List, decLt, arith, length, getD, eq-eqb, eqb-true, ne-eqb}
+use Rattle.laws.specs.Prelude.{lt-ltb, le-ltb, eqb-false, leb-true}
 use Rattle.rules.specs.Lists.{firstPlace}
 use Rattle.rules.specs.Limits.{sizeFits}
 use Rattle.rules.specs.Sheets.Sheets.{Table}

@@ -1,8 +1,6 @@
 -- The results of the two calls that write a shallow net, one law for each outcome; with the count of layers and without it.
 -- Assumes nothing.
-use Prim.Native.Nat.{ℕ}
-use mathlib.Core.Path.{_≡_, refl}
-use mathlib.Core.List.{List}
+use Rattle.laws.specs.Prelude.{ℕ, _≡_, refl, List}
 use Rattle.rules.specs.Sheets.Sheets.{Net, Table}
 use Rattle.rules.specs.Calls.Answers.{Answer, accepted, refused, onward}
 use Rattle.rules.specs.Sheets.Reading.{readNet, tableOfNet}

@@ -1,9 +1,6 @@
 -- The shallower of two sheets, one law for each outcome.
 -- Assumes nothing.
-use Prim.Native.Nat.{ℕ, _≤_, _<_}
-use mathlib.Core.Path.{_≡_, refl}
-use mathlib.Core.List.{List}
-use borrow.Author.Tests.{lt-ltb, le-ltb}
+use Rattle.laws.specs.Prelude.{ℕ, _<_, _≤_, _≡_, refl, List, lt-ltb, le-ltb}
 use Rattle.rules.specs.Sheets.Sheets.{Net}
 use Rattle.rules.specs.Calls.Answers.{accepted, onward, refused}
 use Rattle.rules.specs.Sheets.Reading.{readNet}

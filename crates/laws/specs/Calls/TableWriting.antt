@@ -1,10 +1,6 @@
 -- The result of table writing, one law for each outcome.
 -- Assumes nothing.
-use Prim.Native.Nat.{ℕ, _≤_, _<_}
-use mathlib.Core.Path.{_≡_}
-use mathlib.Core.List.{List}
-use lib.ListN.{length}
-use borrow.Author.Tests.{lt-ltb, le-ltb}
+use Rattle.laws.specs.Prelude.{ℕ, _<_, _≤_, _≡_, List, length, lt-ltb, le-ltb}
 use Rattle.rules.specs.Sheets.Sheets.{Net}
 use Rattle.rules.specs.Sheets.Printed.{printedTable}
 use Rattle.rules.specs.Calls.Answers.{accepted, refused, written}

@@ -1,13 +1,6 @@
 -- Lists all of whose numbers are below a bound.
 -- Assumes nothing.
-use Prim.Native.Nat.{ℕ, zero, suc, _≤_, _<_}
-use mathlib.Core.List.{List, [], _∷_, _++_, map}
-use native.Mathlib.Omega.{arith}
-use lib.ListN.{length, getD}
-use mathlib.Core.Path.{_≡_}
-use mathlib.Core.Bool.{true}
-use lib.Dec.{ltb}
-use borrow.Author.Tests.{ltb-true}
+use Rattle.laws.specs.Prelude.{ℕ, _<_, _≤_, suc, zero, _≡_, true, List, [], _∷_, _++_, map, arith, ltb, length, getD, ltb-true}
 use Rattle.rules.specs.Lists.{all}
 use Rattle.laws.specs.Lists.Tests.{all-iff}
 

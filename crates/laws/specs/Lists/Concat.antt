@@ -1,16 +1,10 @@
 -- Laws of `concatMap` and `map`.
 -- Assumes nothing.
-use Prim.Native.Nat.{ℕ, zero, suc, _+_, _*_, _<_}
-use mathlib.Core.Path.{_≡_, refl, sym, ap, _∙_}
-use mathlib.Core.Logic.{_⊎_, inl, inr}
-use mathlib.Core.List.{List, [], _∷_, _++_, map, append-assoc, List·Memᴰ, List·Memᴰ·head, List·Memᴰ·tail, List·Memᴰ·append-cases, Memᴰ·append-left}
-use mathlib.Core.List.{Memᴰ·append-right, List·Memᴰ·not-nil}
+use Rattle.laws.specs.Prelude.{ℕ, _<_, _+_, suc, _*_, zero, _≡_, _∙_, sym, ap, refl, _⊎_, inl, inr, List, [], _∷_, _++_, map, List·Memᴰ, append-assoc}
+use Rattle.laws.specs.Prelude.{List·Memᴰ·head, List·Memᴰ·not-nil, List·Memᴰ·tail, List·Memᴰ·append-cases, Memᴰ·append-right, Memᴰ·append-left, zero-add}
+use Rattle.laws.specs.Prelude.{zero-mul, suc-mul, add-comm, arith, length, getD, length-append, List·getD-append, getD-append-add}
 use Rattle.rules.specs.Lists.{concatMap}
 pub use mathlib.Core.List.{map-append}
-use native.Mathlib.Nat.{zero-mul, suc-mul, add-comm, zero-add}
-use native.Mathlib.Omega.{arith}
-use lib.ListN.{length, getD, length-append, List·getD-append}
-use lib.Seq.{getD-append-add}
 use Rattle.rules.specs.Lists.{concatMap}
 
 pub concat-append : {A B : Type 0} (f : A → List B) (xs ys : List A) → concatMap f (xs ++ ys) ≡ concatMap f xs ++ concatMap f ys

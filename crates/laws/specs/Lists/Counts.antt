@@ -1,15 +1,7 @@
 -- How many elements of a list pass a test, and how often a number occurs in a list.
 -- Assumes nothing.
-use Prim.Native.Nat.{ℕ, zero, suc, _+_, _≤_, _<_}
-use mathlib.Core.Path.{_≡_, refl}
-use mathlib.Core.Logic.{by-cases}
-use mathlib.Core.Bool.{Bool, true, false}
-use mathlib.Core.List.{List, [], _∷_, _++_, map}
-use native.Mathlib.Omega.{arith}
-use native.Mathlib.Decide.{decLe}
-use lib.ListN.{length}
-use lib.Dec.{eqb}
-use borrow.Author.Tests.{ne-eqb}
+use Rattle.laws.specs.Prelude.{ℕ, _<_, _≤_, _+_, suc, zero, _≡_, refl, by-cases, true, false, Bool, List, [], _∷_, _++_, map, decLe, arith, eqb}
+use Rattle.laws.specs.Prelude.{length, ne-eqb}
 use Rattle.rules.specs.Lists.{range, any, those}
 use Rattle.laws.specs.Lists.Tests.{oneWhere, one-if-le, none-iff}
 

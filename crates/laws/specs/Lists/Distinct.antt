@@ -1,15 +1,7 @@
 -- Lists in which no element occurs twice.
 -- Assumes nothing.
-use Prim.Native.Nat.{ℕ, zero, suc, _≤_, _<_}
-use mathlib.Core.Path.{_≡_, refl, sym, _∙_, ap, subst⁻¹}
-use mathlib.Core.Logic.{_↔_, by-cases}
-use mathlib.Core.Bool.{Bool, true, false, true≢false, _||_}
-use mathlib.Core.List.{List, [], _∷_, _++_}
-use native.Mathlib.Omega.{arith}
-use native.Mathlib.Decide.{decLt}
-use lib.ListN.{length, getD}
-use lib.Dec.{eqb}
-use borrow.Author.Tests.{eqb-false, eq-eqb, ne-eqb, eqb-true}
+use Rattle.laws.specs.Prelude.{ℕ, _<_, _≤_, suc, zero, _≡_, _∙_, sym, ap, refl, subst⁻¹, _↔_, by-cases, true, false, Bool, true≢false, _||_, List}
+use Rattle.laws.specs.Prelude.{[], _∷_, _++_, decLt, arith, eqb, length, getD, eq-eqb, eqb-true, ne-eqb, eqb-false}
 use Rattle.rules.specs.Lists.{any, all}
 use Rattle.rules.specs.Sheets.SheetRules.{Distinct}
 use Rattle.laws.specs.Lists.Tests.{not-false-true, none-iff, none-append, none-mem, all-iff, any-cons}

@@ -1,12 +1,8 @@
 -- The largest of some numbers (`most`) and the smallest (`least`): it bounds them all, and is one of them.
 -- Assumes nothing.
-use Prim.Native.Nat.{ℕ, suc, _*_, _≤_, _<_, max}
-use mathlib.Core.Path.{_≡_, refl, sym, ap, _∙_}
-use mathlib.Core.Logic.{⊎-elim}
-use mathlib.Core.List.{List, [], _∷_, _++_, map, List·Memᴰ, List·Memᴰ·head, List·Memᴰ·tail, List·Memᴰ·cases-cons, List·Memᴰ·not-nil, Memᴰ·cast}
-use native.Mathlib.Nat.{max-zero, max-eq-left, max-eq-right, mul-le-mul-right}
-use native.Mathlib.Omega.{arith, min-cases, max-cases}
-use lib.ListN.{length}
+use Rattle.laws.specs.Prelude.{ℕ, _<_, _≤_, suc, _*_, max, _≡_, _∙_, sym, ap, refl, ⊎-elim, List, [], _∷_, _++_, map, List·Memᴰ, List·Memᴰ·head}
+use Rattle.laws.specs.Prelude.{List·Memᴰ·not-nil, List·Memᴰ·tail, List·Memᴰ·cases-cons, Memᴰ·cast, mul-le-mul-right, max-eq-left, max-eq-right}
+use Rattle.laws.specs.Prelude.{max-zero, arith, max-cases, min-cases, length}
 use Rattle.rules.specs.Nets.Layers.{most}
 use Rattle.rules.specs.Nets.Shallow.{least}
 

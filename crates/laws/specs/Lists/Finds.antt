@@ -1,12 +1,8 @@
 -- The first element that a search finds, by `find`.
 -- Assumes nothing.
-use Prim.Native.Nat.{ℕ, zero, suc, _+_, _≤_, _<_}
-use mathlib.Core.Path.{_≡_, refl, sym, _∙_, ap, subst}
-use mathlib.Core.Logic.{_≢_, _↔_, _⊎_, inl, inr, ⊎-elim}
-use mathlib.Core.Bool.{Bool, true, false, _&&_, true≢false}
+use Rattle.laws.specs.Prelude.{ℕ, _<_, _≤_, _+_, suc, zero, _≡_, _∙_, sym, ap, refl, subst, _↔_, _≢_, ⊎-elim, _⊎_, inl, inr, true, false, Bool, _&&_}
+use Rattle.laws.specs.Prelude.{true≢false, List, [], _∷_, _++_, List·Memᴰ, List·Memᴰ·head, List·Memᴰ·tail, List·Memᴰ·cases-cons, arith}
 use mathlib.Core.Option.{Option, none, some, Option·some-injective, Option·none-ne-some}
-use mathlib.Core.List.{List, [], _∷_, _++_, List·Memᴰ, List·Memᴰ·head, List·Memᴰ·tail, List·Memᴰ·cases-cons}
-use native.Mathlib.Omega.{arith}
 use Rattle.rules.specs.Lists.{range, those, find}
 
 -- The number that a search found is P, and first by R among all that are P; if it found nothing, no number is P.

@@ -1,18 +1,11 @@
 -- The place of the first element that passes a test.
 -- Assumes nothing.
-use Prim.Native.Nat.{ℕ, zero, suc, _+_, _<_, _-_, _≤_}
-use mathlib.Core.Path.{_≡_, refl, sym, ap, _∙_}
-use mathlib.Core.Bool.{Bool, true, false, cond, _||_, false≢true, not}
-use mathlib.Core.List.{List, [], _∷_, map}
-use native.Mathlib.Omega.{arith}
-use lib.ListN.{length, getD}
+use Rattle.laws.specs.Prelude.{ℕ, _<_, _≤_, _+_, _-_, suc, zero, _≡_, _∙_, sym, ap, refl, true, false, Bool, not, cond, _||_, false≢true, List, []}
+use Rattle.laws.specs.Prelude.{_∷_, map, zero-add, add-zero, suc-add, arith, ltb, leb·suc-suc, length, getD, lt-ltb}
 use Rattle.rules.specs.Lists.{range, any, firstPlace, all}
 use Rattle.laws.specs.Lists.Tests.{any-cons}
 use Rattle.laws.specs.Lists.Ranges.{range-length, range-at}
-use lib.Dec.{ltb, leb·suc-suc}
-use borrow.Author.Tests.{lt-ltb}
 use Rattle.rules.specs.Calls.Answers as answers
-use native.Mathlib.Nat.{zero-add, add-zero, suc-add}
 
 -- by the first element's test
 pub first-cons : {A : Type 0} (test : A → Bool) (x : A) (xs : List A) → firstPlace test (x ∷ xs) ≡ cond (test x) zero (suc (firstPlace test xs))

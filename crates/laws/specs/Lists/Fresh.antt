@@ -1,9 +1,6 @@
 -- Things in sequence, each unlike those before it.
 -- Assumes nothing.
-use mathlib.Core.Path.{_≡_, refl, _∙_}
-use mathlib.Core.Bool.{Bool, false}
-use mathlib.Core.Logic.{_↔_}
-use mathlib.Core.List.{List, [], _∷_, _++_}
+use Rattle.laws.specs.Prelude.{_≡_, _∙_, refl, _↔_, false, Bool, List, [], _∷_, _++_}
 use Rattle.rules.specs.Lists.{any}
 use Rattle.laws.specs.Lists.Tests.{none-iff, none-snoc}
 

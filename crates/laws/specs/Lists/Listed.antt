@@ -1,9 +1,7 @@
 -- What is listed in `those`, and functions that agree on what is listed.
 -- Assumes nothing.
-use mathlib.Core.Path.{_≡_, refl, sym, ap, _∙_}
-use mathlib.Core.Logic.{_⊎_, ⊎-elim}
-use mathlib.Core.Bool.{Bool, true, false, false≢true}
-use mathlib.Core.List.{List, [], _∷_, map, List·Memᴰ, List·Memᴰ·head, List·Memᴰ·tail, List·Memᴰ·cases-cons, List·Memᴰ·not-nil}
+use Rattle.laws.specs.Prelude.{_≡_, _∙_, sym, ap, refl, ⊎-elim, _⊎_, true, false, Bool, false≢true, List, [], _∷_, map, List·Memᴰ, List·Memᴰ·head}
+use Rattle.laws.specs.Prelude.{List·Memᴰ·not-nil, List·Memᴰ·tail, List·Memᴰ·cases-cons}
 use Rattle.rules.specs.Lists.{those}
 
 module _ {A : Type 0} (test : A → Bool) where

@@ -1,12 +1,8 @@
 -- A part of a list after a paste into it.
 -- Assumes nothing.
-use Prim.Native.Nat.{ℕ, zero, suc, _+_, _≤_, _<_}
-use mathlib.Core.Path.{_≡_, refl, sym, ap, _∙_}
-use mathlib.Core.List.{List, _++_, append-assoc, [], _∷_}
-use native.Mathlib.Omega.{arith}
-use lib.ListN.{length, getD, take, drop, length-drop, take-append-drop, set, length-set}
-use lib.Seq.{paste, length-take-le, take-all, take-at, drop-at, take-append-le, drop-append-le, sets, getD-set-same, getD-set-other}
-use native.Mathlib.Nat.{add-zero, add-suc, suc-add}
+use Rattle.laws.specs.Prelude.{ℕ, _<_, _≤_, _+_, suc, zero, _≡_, _∙_, sym, ap, refl, List, [], _∷_, _++_, append-assoc, add-zero, suc-add, add-suc}
+use Rattle.laws.specs.Prelude.{arith, length, getD, take, drop, set, length-set, length-drop, take-append-drop, getD-set-same, getD-set-other}
+use Rattle.laws.specs.Prelude.{length-take-le, take-at, paste, sets, take-all, drop-at, drop-append-le, take-append-le}
 use lib.ListN
 
 module _ {A : Type 0} (d : List A) (from : ℕ) (v : List A) (n : ℕ) (fits : from + n ≤ length d) (long : length v ≡ n) where

@@ -1,14 +1,7 @@
 -- Pigeonhole: there are at most k different numbers below k.
 -- Assumes nothing.
-use Prim.Native.Nat.{ℕ, zero, suc, _≤_, _<_, zero-le, suc-le-suc}
-use mathlib.Core.Path.{_≡_, refl, sym, _∙_}
-use mathlib.Core.Bool.{Bool, true, false, cond}
-use native.Mathlib.Nat.{not-suc-le-zero, le-of-suc-le-suc, le-refl, le-step}
-use native.Mathlib.Decide.{decLt}
-use native.Mathlib.Omega.{arith}
-use lib.Dec.{eqb}
-use lib.Arith.{lt-of-le-ne}
-use borrow.Author.Tests.{eqb-true, eqb-false}
+use Rattle.laws.specs.Prelude.{ℕ, _<_, _≤_, suc, zero, suc-le-suc, zero-le, _≡_, _∙_, sym, refl, true, false, Bool, cond, le-refl, le-of-suc-le-suc}
+use Rattle.laws.specs.Prelude.{not-suc-le-zero, le-step, decLt, arith, eqb, eqb-true, eqb-false, lt-of-le-ne}
 
 -- the first c values are pairwise different
 abbrev pub AllDiffer : ℕ → (ℕ → ℕ) → Type 0

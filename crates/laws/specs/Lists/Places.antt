@@ -1,12 +1,7 @@
 -- Lists read by place.
 -- Assumes nothing.
-use Prim.Native.Nat.{ℕ, zero, suc, _<_}
-use mathlib.Core.Path.{_≡_, refl, sym}
-use mathlib.Core.List.{List, [], _∷_, _++_, map, List·Memᴰ, List·Memᴰ·head, List·Memᴰ·tail, List·Memᴰ·not-nil, List·Memᴰ·cases-cons}
-use native.Mathlib.Nat.{not-suc-le-zero, le-of-suc-le-suc}
-use native.Mathlib.Omega.{arith}
-use lib.ListN.{length, getD, length-append}
-use mathlib.Core.Logic.{_⊎_, inl, inr}
+use Rattle.laws.specs.Prelude.{ℕ, _<_, suc, zero, _≡_, sym, refl, _⊎_, inl, inr, List, [], _∷_, _++_, map, List·Memᴰ, List·Memᴰ·head, List·Memᴰ·not-nil}
+use Rattle.laws.specs.Prelude.{List·Memᴰ·tail, List·Memᴰ·cases-cons, le-of-suc-le-suc, not-suc-le-zero, arith, length, getD, length-append}
 
 -- the element at a place is listed
 pub mem-getD {ℓ} : {A : Type ℓ} (xs : List A) (i : ℕ) (d : A) → i < length xs → List·Memᴰ (getD xs i d) xs

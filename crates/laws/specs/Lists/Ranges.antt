@@ -1,14 +1,8 @@
 -- Laws of `range`.
 -- Assumes nothing.
-use Prim.Native.Nat.{ℕ, zero, suc, _+_, _-_, _≤_, _<_}
-use mathlib.Core.Path.{_≡_, refl, sym, ap, _∙_}
-use mathlib.Core.Logic.{_⊎_, inl, inr}
-use mathlib.Core.List.{List, [], _∷_, _++_, map, map-append, List·Memᴰ, List·Memᴰ·head, List·Memᴰ·tail, List·Memᴰ·cases-cons, List·Memᴰ·not-nil}
-use native.Mathlib.Nat.{add-zero, zero-add, add-suc, suc-add, eq-or-lt-of-le}
-use native.Mathlib.Numerals.{add-one}
-use native.Mathlib.Omega.{arith}
-use lib.ListN.{length, getD, length-map, replicate}
-use lib.Seq.{ext-getD}
+use Rattle.laws.specs.Prelude.{ℕ, _<_, _≤_, _+_, _-_, suc, zero, _≡_, _∙_, sym, ap, refl, _⊎_, inl, inr, List, [], _∷_, _++_, map, List·Memᴰ}
+use Rattle.laws.specs.Prelude.{List·Memᴰ·head, List·Memᴰ·not-nil, List·Memᴰ·tail, List·Memᴰ·cases-cons, map-append, zero-add, add-zero, suc-add}
+use Rattle.laws.specs.Prelude.{add-suc, eq-or-lt-of-le, add-one, arith, length, getD, length-map, replicate, ext-getD}
 use Rattle.rules.specs.Lists.{range}
 use Rattle.laws.specs.Lists.Places.{map-at}
 

@@ -1,13 +1,7 @@
 -- Laws of `run` and `past`, and of the spaces at the front.
 -- Assumes nothing.
-use Prim.Native.Nat.{ℕ, suc, _+_, _≤_}
-use mathlib.Core.Path.{_≡_, refl, sym, ap, _∙_}
-use mathlib.Core.Bool.{Bool, true, false}
-use mathlib.Core.List.{List, [], _∷_, _++_}
-use native.Mathlib.Omega.{arith}
-use lib.ListN.{length, take, drop, length-append}
-use lib.Seq.{take-append-seam, drop-append-seam}
-use lib.Dec.{eqb}
+use Rattle.laws.specs.Prelude.{ℕ, _≤_, _+_, suc, _≡_, _∙_, sym, ap, refl, true, false, Bool, List, [], _∷_, _++_, arith, eqb, length, take, drop}
+use Rattle.laws.specs.Prelude.{length-append, drop-append-seam, take-append-seam}
 use Rattle.rules.specs.Text.{space}
 use Rattle.rules.specs.Sheets.Fields.{isSeparator, run, past, pastSpaces, spacesIn}
 

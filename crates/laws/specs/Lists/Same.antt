@@ -1,16 +1,9 @@
 -- Laws of `same`: the same numbers in the same order.
 -- Assumes nothing.
-use Prim.Native.Nat.{ℕ, suc, _+_, _≤_, _<_}
-use mathlib.Core.Path.{_≡_, refl, sym, _∙_, ap₂, ap}
-use mathlib.Core.Bool.{true, false, _&&_, and-eq-true-iff, false≢true, Bool}
-use mathlib.Core.List.{List, [], _∷_}
-use lib.Dec.{eqb}
-use borrow.Author.Tests.{eqb-true, eq-eqb, ne-eqb}
+use Rattle.laws.specs.Prelude.{ℕ, _<_, _≤_, _+_, suc, _≡_, _∙_, sym, ap, refl, ap₂, true, false, Bool, _&&_, and-eq-true-iff, false≢true, List, []}
+use Rattle.laws.specs.Prelude.{_∷_, add-one, eqb, length, getD, drop, drop-of-length-le, drop-cons, eq-eqb, eqb-true, ne-eqb}
 use Rattle.rules.specs.Lists.{same}
 use Rattle.laws.specs.Lists.Tests.{two-ways}
-use native.Mathlib.Numerals.{add-one}
-use lib.ListN.{length, drop, getD, drop-of-length-le}
-use lib.Seq.{drop-cons}
 
 -- the same first number, and the same others
 same-cons : (x y : ℕ) (xs ys : List ℕ) → same (x ∷ xs) (y ∷ ys) ≡ (eqb x y && same xs ys)

@@ -1,11 +1,7 @@
 -- Sums over the numbers below a bound.
 -- Assumes nothing.
-use Prim.Native.Nat.{ℕ, zero, suc, _+_, _≤_, _<_}
-use mathlib.Core.Path.{_≡_, refl, ap, _∙_, subst⁻¹}
-use mathlib.Core.Bool.{Bool, true, false, cond}
-use mathlib.Core.List.{List, [], _∷_, _++_, map, List·Memᴰ, List·Memᴰ·head, Memᴰ·append-left, Memᴰ·append-right}
-use native.Mathlib.Omega.{arith}
-use native.Mathlib.Decide.{ℕ-discrete}
+use Rattle.laws.specs.Prelude.{ℕ, _<_, _≤_, _+_, suc, zero, _≡_, _∙_, ap, refl, subst⁻¹, true, false, Bool, cond, List, [], _∷_, _++_, map}
+use Rattle.laws.specs.Prelude.{List·Memᴰ, List·Memᴰ·head, Memᴰ·append-right, Memᴰ·append-left, ℕ-discrete, arith}
 use Rattle.rules.specs.Lists.{range, those, total}
 use Rattle.laws.specs.Lists.Ranges.{range-suc}
 use Rattle.laws.specs.Lists.Totals.{total-parts, those-cons, those-append}

@@ -1,14 +1,8 @@
 -- Laws of tests: two tests together, and the tests of lists (`all`, `any`).
 -- Assumes nothing.
-use Prim.Native.Nat.{ℕ, suc, _+_, _≤_, _<_}
-use mathlib.Core.Path.{_≡_, refl, sym, _∙_, ap, ap₂}
-use mathlib.Core.Logic.{_↔_}
-use mathlib.Core.Bool.{Bool, true, false, cond, _&&_, _||_, or-assoc, or-false, and-eq-true-iff, true≢false}
-use mathlib.Core.List.{List, [], _∷_, _++_, map, List·Memᴰ, List·Memᴰ·head, List·Memᴰ·tail}
-use native.Mathlib.Omega.{arith}
-use lib.ListN.{length, getD}
-use lib.Dec.{eqb, leb}
-use borrow.Author.Tests.{eqb-true, eq-eqb, ne-eqb, leb-true, le-leb}
+use Rattle.laws.specs.Prelude.{ℕ, _<_, _≤_, _+_, suc, _≡_, _∙_, sym, ap, refl, ap₂, _↔_, true, false, Bool, _&&_, true≢false, and-eq-true-iff, cond}
+use Rattle.laws.specs.Prelude.{_||_, or-false, or-assoc, List, [], _∷_, _++_, map, List·Memᴰ, List·Memᴰ·head, List·Memᴰ·tail, arith, eqb, leb}
+use Rattle.laws.specs.Prelude.{length, getD, eq-eqb, eqb-true, ne-eqb, le-leb, leb-true}
 use Rattle.rules.specs.Lists.{all, any}
 
 -- ---- Booleans

@@ -1,15 +1,9 @@
 -- Sums over lists, and how to go from a number to a part and back: parts are in sequence, each with its own count, and a number stands for a
 -- part and a number below that part's count.
 -- Assumes nothing.
-use Prim.Native.Nat.{ℕ, zero, suc, _+_, _-_, _≤_, _<_}
-use mathlib.Core.Path.{_≡_, refl, sym, ap, ap₂, _∙_}
-use mathlib.Core.Logic.{_⊎_, inl, inr}
-use mathlib.Core.Bool.{Bool, true, false, cond, _||_, false≢true}
-use mathlib.Core.List.{List, [], _∷_, _++_, map, List·Memᴰ, List·Memᴰ·head, List·Memᴰ·tail, List·Memᴰ·cases-cons, List·Memᴰ·not-nil}
-use native.Mathlib.Nat.{zero-add, add-zero, suc-add}
-use native.Mathlib.Omega.{arith}
-use lib.Dec.{eqb, ltb}
-use borrow.Author.Tests.{eqb-true, eqb-false, eq-eqb, ne-eqb, ltb-true, ltb-false, lt-ltb}
+use Rattle.laws.specs.Prelude.{ℕ, _<_, _≤_, _+_, _-_, suc, zero, _≡_, _∙_, sym, ap, refl, ap₂, _⊎_, inl, inr, true, false, Bool, cond, _||_, false≢true}
+use Rattle.laws.specs.Prelude.{List, [], _∷_, _++_, map, List·Memᴰ, List·Memᴰ·head, List·Memᴰ·not-nil, List·Memᴰ·tail, List·Memᴰ·cases-cons, zero-add}
+use Rattle.laws.specs.Prelude.{add-zero, suc-add, arith, eqb, ltb, eq-eqb, eqb-true, ne-eqb, lt-ltb, eqb-false, ltb-true, ltb-false}
 use Rattle.rules.specs.Lists.{range, any, those, firstPlace, total}
 use Rattle.rules.specs.Sheets.SheetRules.{Distinct}
 use Rattle.rules.specs.Nets.Family.{Numbered, numberedAt}

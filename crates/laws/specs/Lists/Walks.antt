@@ -1,15 +1,8 @@
 -- Walking a list or a range from the front: what is known about the rest from a place on, one step further, and where the walk stops.
 -- Assumes nothing.
-use Prim.Native.Nat.{ℕ, _+_, _-_, _≤_, _<_}
-use mathlib.Core.Path.{_≡_, sym, ap, _∙_}
-use mathlib.Core.Bool.{Bool, true, false}
+use Rattle.laws.specs.Prelude.{ℕ, _<_, _≤_, _+_, _-_, _≡_, _∙_, sym, ap, true, false, Bool, List, _∷_, map, add-zero, add-one, arith, length, getD}
+use Rattle.laws.specs.Prelude.{drop, drop-of-length-le, drop-cons}
 use mathlib.Core.Option.{none, some}
-use mathlib.Core.List.{List, _∷_, map}
-use native.Mathlib.Nat.{add-zero}
-use native.Mathlib.Numerals.{add-one}
-use native.Mathlib.Omega.{arith}
-use lib.ListN.{length, getD, drop, drop-of-length-le}
-use lib.Seq.{drop-cons}
 use Rattle.rules.specs.Lists.{range, all, any, find, firstPlace}
 use Rattle.laws.specs.Lists.Ranges.{range-next, range-none}
 

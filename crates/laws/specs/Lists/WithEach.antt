@@ -1,12 +1,7 @@
 -- Entries that are added one by one, each computed from all before it: for two lists of items, how many there are, and which stay. Used for the wires
 -- of a gate list: one law for a step over its gates.
 -- Assumes nothing.
-use Prim.Native.Nat.{ℕ, _+_, _<_}
-use mathlib.Core.Path.{_≡_, refl, _∙_}
-use mathlib.Core.List.{List, [], _∷_, _++_, map}
-use native.Mathlib.Omega.{arith}
-use lib.ListN.{length, getD, List·getD-append}
-use lib.Seq.{getD-append-seam}
+use Rattle.laws.specs.Prelude.{ℕ, _<_, _+_, _≡_, _∙_, refl, List, [], _∷_, _++_, map, arith, length, getD, List·getD-append, getD-append-seam}
 use Rattle.rules.specs.Lists.{withEach}
 use Rattle.rules.specs.Sheets.Sheets.{Gate}
 use Rattle.rules.specs.Sheets.SheetRules.{RefersBack}

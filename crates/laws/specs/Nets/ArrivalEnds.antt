@@ -1,13 +1,7 @@
 -- The two ends of an arrival, and of each of a list of arrivals.
 -- Assumes nothing.
-use Prim.Native.Nat.{ℕ, zero, suc, _≤_}
-use mathlib.Core.Path.{_≡_, refl, sym}
-use mathlib.Core.Bool.{Bool, true, false}
-use mathlib.Core.List.{List, [], _∷_}
-use native.Mathlib.Omega.{arith}
-use lib.ListN.{getD}
-use lib.Dec.{eqb}
-use borrow.Author.Tests.{eqb-true, eqb-false, eq-eqb, ne-eqb}
+use Rattle.laws.specs.Prelude.{ℕ, _≤_, suc, zero, _≡_, sym, refl, true, false, Bool, List, [], _∷_, arith, eqb, getD, eq-eqb, eqb-true, ne-eqb}
+use Rattle.laws.specs.Prelude.{eqb-false}
 use Rattle.rules.specs.Limits.{mostTime}
 use Rattle.rules.specs.Sheets.ArrivalSheet.{Arrival, fixed, between, arrivalOf, earliestOf, latestOf, ArrivalRules, EachArrivalRules}
 

@@ -1,11 +1,6 @@
 -- An ink as a field of a row: a digit below m, or the sign of an open cell (document 02, K13).
 -- Assumes nothing.
-use Prim.Native.Nat.{ℕ, _-_}
-use mathlib.Core.Path.{_≡_}
-use mathlib.Core.Bool.{Bool, true, false}
-use mathlib.Core.List.{[], _∷_}
-use lib.Dec.{eqb}
-use borrow.Author.Tests.{eq-eqb, ne-eqb}
+use Rattle.laws.specs.Prelude.{ℕ, _-_, _≡_, true, false, Bool, [], _∷_, eqb, eq-eqb, ne-eqb}
 use Rattle.rules.specs.Text.{digitByte, openByte, isDigit}
 use Rattle.rules.specs.Sheets.Fields.{Judged, good, bad, judged}
 use Rattle.rules.specs.Sheets.Sheets.{inkField, inkByte}

@@ -1,10 +1,7 @@
 -- The layers of a gate list are its settling time if every input arrives at 0 and each gate takes 1.
 -- Assumes nothing.
-use Prim.Native.Nat.{ℕ, zero, suc, _+_, _-_, _<_, max}
-use mathlib.Core.Path.{_≡_, refl, sym, ap, ap₂, _∙_}
-use mathlib.Core.List.{List, [], _∷_, _++_, map}
-use native.Mathlib.Omega.{arith}
-use lib.ListN.{length, getD, length-append, length-map, replicate}
+use Rattle.laws.specs.Prelude.{ℕ, _<_, _+_, _-_, suc, zero, max, _≡_, _∙_, sym, ap, refl, ap₂, List, [], _∷_, _++_, map, arith, length, getD}
+use Rattle.laws.specs.Prelude.{length-append, length-map, replicate}
 use Rattle.rules.specs.Lists.{range, withEach}
 use Rattle.rules.specs.Sheets.Sheets.{Gate}
 use Rattle.rules.specs.Sheets.SheetRules.{RefersBack}

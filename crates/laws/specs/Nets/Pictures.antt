@@ -1,15 +1,8 @@
 -- The new picture, cell by cell: each is the entry of the net's table at the levels that are read.
 -- Assumes nothing.
-use Prim.Native.Nat.{ℕ, _+_, _*_, _^_, _≤_, _<_}
-use mathlib.Core.Path.{_≡_, refl, sym, ap, _∙_}
-use mathlib.Core.Bool.{Bool, true, false, _&&_, and-false, and-eq-true-iff}
-use mathlib.Core.List.{List, map}
-use native.Mathlib.Nat.{zero-add, mul-comm}
-use lib.ListN.{length, getD}
+use Rattle.laws.specs.Prelude.{ℕ, _<_, _≤_, _+_, _^_, _*_, _≡_, _∙_, sym, ap, refl, true, false, Bool, _&&_, and-eq-true-iff, and-false, List, map}
+use Rattle.laws.specs.Prelude.{zero-add, mul-comm, ltb, length, getD, lt-ltb, le-ltb, ltb-true, digits-lt}
 use lib.IntN.{ℤ, pos, negsuc, _+ℤ_}
-use lib.Dec.{ltb}
-use lib.Arith.{digits-lt}
-use borrow.Author.Tests.{ltb-true, lt-ltb, le-ltb}
 use Rattle.rules.specs.Lists.{range}
 use Rattle.rules.specs.Sheets.Sheets.{Gate, Net, levelsAt}
 use Rattle.rules.specs.Nets.Value.{value, tableOf, valueWith}

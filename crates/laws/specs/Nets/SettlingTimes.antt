@@ -1,12 +1,7 @@
 -- The settling time of a gate list, whatever its wiring: with later arrivals at the used inputs it is no earlier, and in a finer unit it is the same
 -- time. "Arrival times count used inputs only." (document 02, K12)
 -- Assumes nothing.
-use Prim.Native.Nat.{ℕ, _+_, _*_, _≤_}
-use mathlib.Core.Path.{_≡_, sym, ap, _∙_}
-use mathlib.Core.List.{List, List·Memᴰ}
-use native.Mathlib.Nat.{add-mul, mul-right-comm}
-use native.Mathlib.Omega.{arith}
-use lib.ListN.{getD}
+use Rattle.laws.specs.Prelude.{ℕ, _≤_, _+_, _*_, _≡_, _∙_, sym, ap, List, List·Memᴰ, add-mul, mul-right-comm, arith, getD}
 use Rattle.rules.specs.Sheets.Sheets.{Gate}
 use Rattle.rules.specs.Nets.Arrivals.{gatesOnWay, usedInputs, settlingTime}
 use Rattle.laws.specs.Lists.Extremes.{most-more, most-same, most-times}

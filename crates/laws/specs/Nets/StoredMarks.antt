@@ -1,12 +1,7 @@
 -- Marks stored four to a byte (document 02, K7): one more byte, how many bytes there are, and that unpacking what was packed gives the marks back.
 -- Assumes nothing.
-use Prim.Native.Nat.{ℕ, zero, suc, _+_, _*_, _/_, _%_, _^_, _≤_, _<_}
-use mathlib.Core.Path.{_≡_, refl, sym, ap, ap₂, _∙_}
-use mathlib.Core.List.{List, [], _∷_, _++_}
-use native.Mathlib.Nat.{zero-div, div-one, pow-suc}
-use native.Mathlib.Omega.{arith}
-use lib.ListN.{length, getD, take, drop, set, List·getD-append}
-use lib.Seq.{drop-cons, set-at, append-snoc, length-take-le}
+use Rattle.laws.specs.Prelude.{ℕ, _<_, _≤_, _+_, _^_, suc, _*_, zero, _%_, _/_, _≡_, _∙_, sym, ap, refl, ap₂, List, [], _∷_, _++_, pow-suc, zero-div}
+use Rattle.laws.specs.Prelude.{div-one, arith, length, getD, take, drop, set, List·getD-append, length-take-le, drop-cons, append-snoc, set-at}
 use Rattle.rules.specs.Groups.Marks.{markIn, marksLength, storedMarks, markStored, unpacked}
 use Rattle.rules.specs.Calls.Answers.{written}
 

@@ -1,10 +1,6 @@
 -- When each reference of a gate list settles, one number for each: an input when it arrives, a gate one delay after the later of the two it joins.
 -- Assumes nothing.
-use Prim.Native.Nat.{ℕ, zero, suc, _+_, _*_, _≤_, max}
-use mathlib.Core.List.{List, [], _∷_, _++_}
-use native.Mathlib.Nat.{mul-suc}
-use native.Mathlib.Omega.{arith}
-use lib.ListN.{length, getD}
+use Rattle.laws.specs.Prelude.{ℕ, _≤_, _+_, suc, _*_, zero, max, List, [], _∷_, _++_, mul-suc, arith, length, getD}
 use Rattle.rules.specs.Lists.{withEach}
 use Rattle.rules.specs.Sheets.Sheets.{Gate}
 

@@ -1,11 +1,6 @@
 -- Every earlier gate is used: the test that reading makes (`earlierUsed`) agrees with the rule for a net (`EarlierUsed`).
 -- Assumes nothing.
-use Prim.Native.Nat.{ℕ, _-_}
-use mathlib.Core.Path.{_≡_}
-use mathlib.Core.Bool.{true}
-use mathlib.Core.List.{List}
-use native.Mathlib.Omega.{arith}
-use lib.ListN.{length}
+use Rattle.laws.specs.Prelude.{ℕ, _-_, _≡_, true, List, arith, length}
 use Rattle.rules.specs.Lists.{range}
 use Rattle.rules.specs.Sheets.Sheets.{Gate, earlierUsed}
 use Rattle.rules.specs.Sheets.SheetRules.{EarlierUsed}

@@ -1,14 +1,9 @@
 -- Assignments: "An assignment gives each input a level." Each assignment is the levels of exactly one index, so a statement about every
 -- index below m to the n is a statement about every assignment.
 -- Assumes nothing.
-use Prim.Native.Nat.{ℕ, zero, suc, _+_, _*_, _/_, _^_, _<_}
-use mathlib.Core.Path.{_≡_, refl, sym, ap, _∙_, subst}
-use mathlib.Core.Logic.{_↔_}
-use mathlib.Core.List.{List, [], _∷_, _++_, append-assoc, append-nil}
-use native.Mathlib.Nat.{add-zero, zero-add, suc-add, add-suc, pow-zero, pow-suc, div-add-mod', div-lt-iff-lt-mul}
-use native.Mathlib.Omega.{arith}
-use lib.ListN.{length, getD}
-use lib.Arith.{digits-lt, digits-div, digits-mod, lt-one}
+use Rattle.laws.specs.Prelude.{ℕ, _<_, _+_, _^_, suc, _*_, zero, _/_, _≡_, _∙_, sym, ap, refl, subst, _↔_, List, [], _∷_, _++_, append-assoc}
+use Rattle.laws.specs.Prelude.{append-nil, zero-add, add-zero, pow-suc, pow-zero, div-lt-iff-lt-mul, div-add-mod', suc-add, add-suc, arith, length}
+use Rattle.laws.specs.Prelude.{getD, digits-lt, digits-mod, digits-div, lt-one}
 use Rattle.rules.specs.Lists.{range}
 use Rattle.rules.specs.Sheets.Sheets.{levelsAt}
 use Rattle.laws.specs.Numbers.Levels.{levels-length, levels-below, levels-suc}

@@ -1,13 +1,7 @@
 -- Decimal values digit by digit, and how long they are.
 -- Assumes nothing.
-use Prim.Native.Nat.{ℕ, zero, suc, _/_, _%_, _^_, _≤_, _<_}
-use mathlib.Core.Path.{_≡_, sym, ap, _∙_}
-use mathlib.Core.List.{List, [], _∷_, _++_}
-use native.Mathlib.Nat.{pow-suc}
-use native.Mathlib.Decide.{decLe}
-use native.Mathlib.Omega.{arith}
-use borrow.Author.Tests.{lt-ltb, le-ltb}
-use lib.ListN.{length, length-append}
+use Rattle.laws.specs.Prelude.{ℕ, _<_, _≤_, _^_, suc, zero, _%_, _/_, _≡_, _∙_, sym, ap, List, [], _∷_, _++_, pow-suc, decLe, arith, length}
+use Rattle.laws.specs.Prelude.{length-append, lt-ltb, le-ltb}
 use Rattle.rules.specs.Text.{digitByte, decimalF, decimal}
 
 one-digit : (fuel k : ℕ) → k < 10 → decimalF fuel k ≡ digitByte k ∷ []

@@ -1,14 +1,7 @@
 -- The bytes of digits, and which bytes are a decimal value: at least one digit, digits alone, and no needless zero in front.
 -- Assumes nothing.
-use Prim.Native.Nat.{ℕ, suc, _+_, _-_, _*_, _/_, _%_, _^_, _≤_, _<_}
-use mathlib.Core.Path.{_≡_, refl, ap, ap₂, _∙_}
-use mathlib.Core.Logic.{_↔_}
-use mathlib.Core.Bool.{true, false}
-use mathlib.Core.List.{List, [], _∷_, _++_, append-nil}
-use native.Mathlib.Decide.{decLt}
-use native.Mathlib.Omega.{arith}
-use lib.ListN.{length, getD, length-append, List·getD-append}
-use lib.Seq.{append-snoc}
+use Rattle.laws.specs.Prelude.{ℕ, _<_, _≤_, _+_, _-_, _^_, suc, _*_, _%_, _/_, _≡_, _∙_, ap, refl, ap₂, _↔_, true, false, List, [], _∷_, _++_}
+use Rattle.laws.specs.Prelude.{append-nil, decLt, arith, length, getD, length-append, List·getD-append, append-snoc}
 use Rattle.rules.specs.Lists.{all}
 use Rattle.rules.specs.Text.{digitByte, isDigit, decimal, valueOf, isDecimal}
 use Rattle.laws.specs.Numbers.Decimals.{by-digits, decimal-one, decimal-more, decimal-length}

@@ -1,18 +1,9 @@
 -- The levels of an index, and their count: "The input levels count upward from all zeros, last input fastest."
 -- Assumes nothing.
-use Prim.Native.Nat.{ℕ, zero, suc, _+_, _-_, _*_, _/_, _%_, _≤_, _<_}
-use mathlib.Core.Path.{_≡_, refl, sym, ap, _∙_}
-use mathlib.Core.Bool.{Bool, true, false, cond, _&&_, and-false}
-use mathlib.Core.List.{List, [], _∷_, _++_}
-use native.Mathlib.Nat.{pow-zero, pow-succ', div-one, div-div-eq-div-mul, div-add-mod', mod-lt, suc-mul, zero-div, zero-mod, zero-add}
-use native.Mathlib.Numerals.{add-one}
-use native.Mathlib.Omega.{arith}
-use native.Mathlib.Decide.{decLe}
-use lib.ListN.{length, getD, take, drop, replicate, length-append, length-drop}
-use lib.Seq.{take-at}
-use lib.Dec.{leb}
-use lib.Arith.{digits-div, digits-mod}
-use borrow.Author.Tests.{le-leb, lt-leb}
+use Rattle.laws.specs.Prelude.{ℕ, _<_, _≤_, _+_, _-_, suc, _*_, zero, _%_, _/_, _≡_, _∙_, sym, ap, refl, true, false, Bool, _&&_, cond, and-false}
+use Rattle.laws.specs.Prelude.{List, [], _∷_, _++_, zero-add, suc-mul, pow-zero, mod-lt, div-add-mod', pow-succ', zero-div, div-div-eq-div-mul}
+use Rattle.laws.specs.Prelude.{div-one, zero-mod, add-one, decLe, arith, leb, length, getD, take, drop, length-append, replicate, length-drop}
+use Rattle.laws.specs.Prelude.{take-at, le-leb, lt-leb, digits-mod, digits-div}
 use Rattle.rules.specs.Lists.{range}
 use Rattle.rules.specs.Sheets.Sheets.{level, levelsAt}
 use Rattle.laws.specs.Lists.Concat.{map-append}

@@ -1,16 +1,9 @@
 -- Whole numbers of quarters as doubles. Below 2 to the power 53 each is exact, so sums and order of doubles are those of the whole numbers.
 -- Assumes nothing.
-use Prim.Native.Nat.{ℕ, _+_, _*_, _^_, _≤_, _<_, max}
-use mathlib.Core.Path.{_≡_, refl, sym, ap, ap₂, _∙_, subst}
-use mathlib.Core.Bool.{true, false, cond, true≢false}
-use native.Mathlib.Nat.{mul-assoc, mul-comm, mul-right-comm, add-mul, mul-pos, mul-lt-mul-of-pos-right, mul-le-mul-right, lt-of-mul-lt-mul-right}
-use native.Mathlib.Nat.{le-of-mul-le-mul-right, eq-of-mul-eq-mul-right, le-max-left, le-max-right, max-eq-right, max-eq-left, le-of-lt}
-use native.Mathlib.Nat.{lt-of-le-of-lt, lt-of-lt-of-le}
-use native.Mathlib.Decide.{decLt}
-use native.Mathlib.Omega.{arith}
-use borrow.Author.Tests.{lt-ltb, le-ltb}
-use lib.Dec.{ltb, lit<, lit≤}
-use lib.Pow.{shl-lt, pow-mono}
+use Rattle.laws.specs.Prelude.{ℕ, _<_, _≤_, _+_, _^_, _*_, max, _≡_, _∙_, sym, ap, refl, subst, ap₂, true, false, true≢false, cond, mul-le-mul-right}
+use Rattle.laws.specs.Prelude.{lt-of-lt-of-le, mul-comm, mul-assoc, add-mul, lt-of-le-of-lt, le-of-lt, mul-pos, max-eq-left, max-eq-right}
+use Rattle.laws.specs.Prelude.{mul-right-comm, eq-of-mul-eq-mul-right, le-max-left, le-max-right, le-of-mul-le-mul-right, lt-of-mul-lt-mul-right}
+use Rattle.laws.specs.Prelude.{mul-lt-mul-of-pos-right, decLt, arith, ltb, lit<, lit≤, lt-ltb, le-ltb, pow-mono, shl-lt}
 use lib.IntN.{pos, negsuc}
 use lib.Ieee.{Float, fin, binary64, up, down, round, add, sum, mul, lt, ofInt, ofBits}
 use lib.Ieee.Exact.{HasValue, round-exact}

@@ -1,12 +1,6 @@
 -- The bounds of levels, inputs and cells as inequalities.
 -- Assumes nothing.
-use Prim.Native.Nat.{ℕ, _+_, _-_, _^_, _≤_}
-use mathlib.Core.Path.{_≡_}
-use mathlib.Core.Logic.{_↔_}
-use mathlib.Core.Bool.{Bool, true, not, _&&_, _||_, and-eq-true-iff}
-use native.Mathlib.Omega.{arith}
-use lib.Dec.{leb}
-use borrow.Author.Tests.{leb-true, le-leb}
+use Rattle.laws.specs.Prelude.{ℕ, _≤_, _+_, _-_, _^_, _≡_, _↔_, true, Bool, _&&_, not, and-eq-true-iff, _||_, arith, leb, le-leb, leb-true}
 use Rattle.rules.specs.Lists.{range, all}
 use Rattle.rules.specs.Limits.{fewestLevels, mostLevels, fewestInputs, mostInputs, mostCells, levelsFit, inputsFit, cellsFit, sizeFits}
 use Rattle.rules.specs.Sheets.Sheets.{Header}

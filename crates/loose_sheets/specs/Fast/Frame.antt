@@ -1,9 +1,6 @@
 -- The layout of a row, place by place: the bytes allowed there, and the weight of a level there in the index.
 -- Assumes nothing.
-use Prim.Native.Nat.{ℕ, _+_, _-_, _^_, _≤_, _<_}
-use mathlib.Core.Path.{_≡_}
-use mathlib.Core.List.{List}
-use lib.ListN.{length, getD}
+use Rattle.laws.specs.Prelude.{ℕ, _<_, _≤_, _+_, _-_, _^_, _≡_, List, length, getD}
 use Rattle.rules.specs.Text.{zeroByte, spaceByte}
 
 -- the most places of a row that are compared

@@ -1,11 +1,7 @@
 -- A row that matches its frame is read in one step: the weights of its levels sum to its index.
 -- Assumes nothing.
-use Prim.Native.Nat.{ℕ, suc, _+_, _-_, _*_, _%_, _^_, _≤_, _<_}
-use mathlib.Core.Path.{_≡_, refl, sym, ap, _∙_}
-use mathlib.Core.List.{List}
-use native.Mathlib.Nat.{mul-assoc, add-mul, mul-one, mul-zero, zero-mul, pow-zero, pow-succ'}
-use native.Mathlib.Omega.{arith}
-use lib.ListN.{length, drop, getD}
+use Rattle.laws.specs.Prelude.{ℕ, _<_, _≤_, _+_, _-_, _^_, suc, _*_, _%_, _≡_, _∙_, sym, ap, refl, List, zero-mul, pow-zero, mul-one, mul-assoc, add-mul}
+use Rattle.laws.specs.Prelude.{mul-zero, pow-succ', arith, length, getD, drop}
 use Rattle.rules.specs.Text.{zeroByte, spaceByte}
 use Rattle.rules.specs.Limits.{mostLevels}
 use Rattle.rules.specs.Sheets.Fields.{fieldIn, loose}
@@ -42,7 +38,8 @@ module _ (s : List ℕ) (at m n : ℕ) (few : m ≤ mostLevels) (least more weig
   level-byte j after level here = (omega (arith, level .below, here .most), omega (arith, level .byte, level .below, here .most, here .is, few))
 
   -- one more space
-  module _ (j i : ℕ) (before : InLaid j i) (some : 0 < i) (room : at + (j + 1) < length s) (space : getD s (at + j) 0 ≡ spaceByte) (none : getD weights j 0 ≡ 0) where
+  module _ (j i : ℕ) (before : InLaid j i) (some : 0 < i) (room : at + (j + 1) < length s) (space : getD s (at + j) 0 ≡ spaceByte)
+      (none : getD weights j 0 ≡ 0) where
     passed : before .place ≡ spacesEnd s (at + (j + 1))
     passed =
         let one : at + j + 1 ≡ at + (j + 1) = omega arith in
@@ -98,7 +95,8 @@ module _ (s : List ℕ) (at m n : ℕ) (few : m ≤ mostLevels) (least more weig
           index = before .index * m + d;
           here = λ within other. ap (spacesEnd s) two ∙ spaces-here s (at + (j + 2)) within other;
           past = λ _. ap (spacesEnd s) two;
-          reads = index-next s at m n (before .place) (before .index) i (before .reads) fewer (On d (spacesEnd s (at + j + 2))) level d (spacesEnd s (at + j + 2)) refl;
+          reads = index-next s at m n (before .place) (before .index) i (before .reads) fewer (On d (spacesEnd s (at + j + 2))) level d
+              (spacesEnd s (at + j + 2)) refl;
           counts = counts-more;
         }
 
@@ -125,7 +123,8 @@ module _ (s : List ℕ) (at m n : ℕ) (few : m ≤ mostLevels) (least more weig
       (one-space j i (before (λ q a b. stand q a (omega (arith, one, b))) (omega (arith, one, room))) some (omega (arith, one, room))
       (space-byte j space (stand j (omega arith) (omega (arith, one)))) (space .weight))
 
-  of-level : (j i k h : ℕ) → Before j i → i < n → LevelAt least more weights m j (n - (i + 1)) → SpaceAt least more weights (j + 1) → k ≡ j + 2 → h ≡ i + 1 → Before k h
+  of-level : (j i k h : ℕ) → Before j i → i < n → LevelAt least more weights m j (n - (i + 1)) → SpaceAt least more weights (j + 1) → k ≡ j + 2 → h ≡ i + 1
+      → Before k h
   of-level j i k h before fewer at-level space two one stand room =
       let here = stand j (omega arith) (omega (arith, two)) in
       let (below, byte) = level-byte j (n - (i + 1)) at-level here in
@@ -140,7 +139,8 @@ module _ (s : List ℕ) (at m n : ℕ) (few : m ≤ mostLevels) (least more weig
 
 -- ---- the whole row
 
-module _ (s : List ℕ) (at m n : ℕ) (few : m ≤ mostLevels) (least more weights : List ℕ) (width : ℕ) (framed : Framed m n least more weights width) (row : InFrame s at least more width) where
+module _ (s : List ℕ) (at m n : ℕ) (few : m ≤ mostLevels) (least more weights : List ℕ) (width : ℕ) (framed : Framed m n least more weights width)
+    (row : InFrame s at least more width) where
   width-looked : width ≤ lookedAt width
   width-looked = looked-bounds width (framed .most) .1
 

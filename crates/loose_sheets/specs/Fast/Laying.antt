@@ -1,11 +1,7 @@
 -- A row is laid out place by place, over places that have no weight yet.
 -- Assumes nothing.
-use Prim.Native.Nat.{ℕ, zero, suc, _+_, _-_, _^_, _≤_, _<_}
-use mathlib.Core.Path.{_≡_, refl, subst, _∙_}
-use mathlib.Core.List.{List}
-use native.Mathlib.Omega.{arith}
-use lib.ListN.{length, getD, set, replicate, length-set}
-use lib.Seq.{getD-set-same, getD-set-other}
+use Rattle.laws.specs.Prelude.{ℕ, _<_, _≤_, _+_, _-_, _^_, suc, zero, _≡_, _∙_, refl, subst, List, arith, length, getD, set, length-set, replicate}
+use Rattle.laws.specs.Prelude.{getD-set-same, getD-set-other}
 use Rattle.rules.specs.Text.{zeroByte, spaceByte}
 use Rattle.loose_sheets.specs.Fast.Frame.{mostLaid, SpaceAt, LevelAt, LooseLaid, laid-none, laid-space, laid-level, Framed}
 
@@ -123,7 +119,8 @@ module _ (m n : ℕ) (least more weights : List ℕ) (i j : ℕ) (before : Layin
         };
         most = before .most;
         laid = laid-space j i (j + 1)
-            (laid-kept least more weights _ _ weights m n j i (same-set least j j spaceByte (omega arith)) (same-set more j j 0 (omega arith)) (λ _ _. refl) (before .laid))
+            (laid-kept least more weights _ _ weights m n j i (same-set least j j spaceByte (omega arith)) (same-set more j j 0 (omega arith)) (λ _ _. refl)
+            (before .laid))
             some space refl;
         rest = λ k h. before .rest k (omega (arith, h));
       }
@@ -147,7 +144,8 @@ module _ (m n : ℕ) (least more weights : List ℕ) (i j : ℕ) (before : Layin
         };
         most = omega (arith, fewer);
         laid = laid-level j i (j + 2) (i + 1)
-            (laid-kept least more weights _ _ _ m n j i (same-two least j zeroByte spaceByte) (same-two more j highest 0) (same-set weights j j weight (omega arith)) (before .laid))
+            (laid-kept least more weights _ _ _ m n j i (same-two least j zeroByte spaceByte) (same-two more j highest 0)
+            (same-set weights j j weight (omega arith)) (before .laid))
             fewer level space refl refl;
         rest = λ k h. later k (omega (arith, h));
       }

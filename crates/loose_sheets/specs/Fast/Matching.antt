@@ -1,13 +1,7 @@
 -- A row matches its frame.
 -- Assumes nothing.
-use Prim.Native.Nat.{ℕ, _+_, _-_, _*_, _/_, _%_, _^_, _≤_, _<_}
-use mathlib.Core.Path.{_≡_, refl}
-use mathlib.Core.Bool.{Bool, true, false}
-use mathlib.Core.List.{List}
-use native.Mathlib.Omega.{arith}
-use lib.ListN.{length, getD}
-use lib.Dec.{leb, ltb}
-use borrow.Author.Tests.{le-leb, lt-leb, leb-true, leb-false, ltb-true, ltb-false}
+use Rattle.laws.specs.Prelude.{ℕ, _<_, _≤_, _+_, _-_, _^_, _*_, _%_, _/_, _≡_, refl, true, false, Bool, List, arith, ltb, leb, length, getD, le-leb}
+use Rattle.laws.specs.Prelude.{lt-leb, leb-true, ltb-true, leb-false, ltb-false}
 use Rattle.rules.specs.Text.{spaceByte}
 use Rattle.loose_sheets.specs.Fast.Frame.{mostLaid}
 
@@ -65,7 +59,8 @@ steps-bounds width most = (omega arith, omega (arith, most))
 pub looked-bounds : (width : ℕ) → width ≤ mostLaid → (32 < width → 64 ≤ lookedAt width) × (width ≤ lookedAt width) × (lookedAt width ≤ mostLaid)
 looked-bounds width most = go (leb width 32) refl (leb width 64) refl
   where
-    go : (b : Bool) → leb width 32 ≡ b → (c : Bool) → leb width 64 ≡ c → (32 < width → 64 ≤ lookedAt width) × (width ≤ lookedAt width) × (lookedAt width ≤ mostLaid)
+    go : (b : Bool) → leb width 32 ≡ b → (c : Bool) → leb width 64 ≡ c → (32 < width → 64 ≤ lookedAt width) × (width ≤ lookedAt width)
+        × (lookedAt width ≤ mostLaid)
     go true e c f =
         let few = leb-true width 32 e in
         let (low, high) = steps-bounds width most in
@@ -79,7 +74,8 @@ looked-bounds width most = go (leb width 32) refl (leb width 64) refl
         rw (looked-more width more) (λ _. omega (arith, low, more), low, high)
 
 -- two parts, one after the other
-pub stand-both : (s : List ℕ) (at : ℕ) (least more : List ℕ) (from mid to : ℕ) → Stand s at least more from mid → Stand s at least more mid to → Stand s at least more from to
+pub stand-both : (s : List ℕ) (at : ℕ) (least more : List ℕ) (from mid to : ℕ) → Stand s at least more from mid → Stand s at least more mid to
+    → Stand s at least more from to
 stand-both s at least more from mid to first second q a b = go (ltb q mid) refl
   where
     go : (t : Bool) → ltb q mid ≡ t → InBounds s at least more q

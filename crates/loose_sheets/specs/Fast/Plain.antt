@@ -1,11 +1,6 @@
 -- A digit with its separator right after it, as a field of a loose sheet.
 -- Assumes nothing.
-use Prim.Native.Nat.{ℕ, _+_, _<_}
-use mathlib.Core.Path.{_≡_, refl, sym, ap, _∙_}
-use mathlib.Core.Bool.{true}
-use mathlib.Core.List.{List, [], _∷_}
-use native.Mathlib.Omega.{arith}
-use lib.ListN.{drop}
+use Rattle.laws.specs.Prelude.{ℕ, _<_, _+_, _≡_, _∙_, sym, ap, refl, true, List, [], _∷_, arith, drop}
 use Rattle.rules.specs.Text.{zeroByte, spaceByte, newlineByte}
 use Rattle.rules.specs.Sheets.Fields.{read, Judge, good, isSeparator, separator, looseSeparator, afterFieldIn, fieldOfIn, fieldIn, loose}
 use Rattle.rules.specs.Sheets.Sheets.{inkField}

@@ -1,12 +1,6 @@
 -- What the places of a row add to its index.
 -- Assumes nothing.
-use Prim.Native.Nat.{ℕ, zero, suc, _+_, _-_, _*_, _%_, _≤_, _<_}
-use mathlib.Core.Path.{_≡_, refl, ap, _∙_}
-use mathlib.Core.List.{List}
-use native.Mathlib.Nat.{add-assoc, add-zero, mul-zero}
-use native.Mathlib.Numerals.{add-one}
-use native.Mathlib.Omega.{arith}
-use lib.ListN.{getD}
+use Rattle.laws.specs.Prelude.{ℕ, _<_, _≤_, _+_, _-_, suc, _*_, zero, _%_, _≡_, _∙_, ap, refl, List, add-zero, add-assoc, mul-zero, add-one, arith, getD}
 
 -- what the first k places add: the low half of a digit's byte is the level
 unfoldable pub counted : List ℕ → ℕ → List ℕ → ℕ → ℕ

@@ -1,13 +1,7 @@
 -- The input fields of a row, one after the other: the index of its assignment.
 -- Assumes nothing.
-use Prim.Native.Nat.{ℕ, suc, _+_, _-_, _*_, _^_, _≤_, _<_}
-use mathlib.Core.Path.{_≡_, refl, sym, ap, _∙_}
-use mathlib.Core.List.{List}
-use native.Mathlib.Nat.{sub-zero, pow-succ', pow-zero, pow-le-pow-right, mul-comm, lt-of-lt-of-le}
-use native.Mathlib.Numerals.{add-one}
-use native.Mathlib.Omega.{arith}
-use lib.Arith.{digits-lt}
-use lib.ListN.{drop}
+use Rattle.laws.specs.Prelude.{ℕ, _<_, _≤_, _+_, _-_, _^_, suc, _*_, _≡_, _∙_, sym, ap, refl, List, sub-zero, pow-zero, pow-le-pow-right, lt-of-lt-of-le}
+use Rattle.laws.specs.Prelude.{mul-comm, pow-succ', add-one, arith, drop, digits-lt}
 use Rattle.rules.specs.Text.{space, spaceByte}
 use Rattle.rules.specs.Sheets.Fields.{then, fieldIn, loose}
 use Rattle.rules.specs.Sheets.LooseSheet.{anyLevel, indexFields}

@@ -1,8 +1,6 @@
 -- An input field: one digit below m.
 -- Assumes nothing.
-use Prim.Native.Nat.{ℕ, _+_, _<_}
-use mathlib.Core.Path.{_≡_, refl, sym, _∙_}
-use mathlib.Core.List.{List, [], _∷_}
+use Rattle.laws.specs.Prelude.{ℕ, _<_, _+_, _≡_, _∙_, sym, refl, List, [], _∷_}
 use Rattle.rules.specs.Text.{zeroByte}
 use Rattle.rules.specs.Sheets.Fields.{good}
 use Rattle.rules.specs.Sheets.LooseSheet.{anyLevel}

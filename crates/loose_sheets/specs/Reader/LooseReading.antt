@@ -1,8 +1,6 @@
 -- The result of reading a loose table sheet, in the definitions.
 -- Assumes nothing.
-use Prim.Native.Nat.{ℕ, _^_}
-use mathlib.Core.Path.{_≡_}
-use mathlib.Core.List.{List, []}
+use Rattle.laws.specs.Prelude.{ℕ, _^_, _≡_, List, []}
 use Rattle.rules.specs.Sheets.Fields.{Reader, loose}
 use Rattle.rules.specs.Sheets.Sheets as sheets
 use Rattle.rules.specs.Sheets.LooseSheet.{Row, LooseTable, looseRows, looseSheet, readLoose}

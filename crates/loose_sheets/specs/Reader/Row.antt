@@ -1,11 +1,6 @@
 -- A row of a loose sheet.
 -- Assumes nothing.
-use Prim.Native.Nat.{ℕ, _^_, _≤_, _<_}
-use mathlib.Core.Path.{_≡_, refl, sym, ap, _∙_}
-use mathlib.Core.Bool.{true, false}
-use mathlib.Core.List.{List}
-use native.Mathlib.Omega.{arith}
-use lib.ListN.{drop, getD}
+use Rattle.laws.specs.Prelude.{ℕ, _<_, _≤_, _^_, _≡_, _∙_, sym, ap, refl, true, false, List, arith, getD, drop}
 use Rattle.rules.specs.Lists.{any}
 use Rattle.rules.specs.Text.{newline, newlineByte}
 use Rattle.rules.specs.Sheets.Fields.{Read, read, turnedBack, Reader, then, _>>=_, give, fieldIn, loose}
@@ -60,8 +55,11 @@ ink-told-within s at m p r e q ink next is = go (fieldIn loose (inkField m) newl
     go : (x : Read ℕ) → fieldIn loose (inkField m) newline (drop at s) at ≡ x
         → rowAs s (Taken q ink next) ≡ then x (λ ink. give (record { index = p; ink = ink })) → (q ≡ p) × (ink ≤ m)
     go (read a rest place) f h =
-        let same-row : _≡_ {A = Row} (record { index = q; ink = ink }) (record { index = p; ink = a }) = cc in
-        (ap (λ (row : Row). row .index) same-row, rw (ap (λ (row : Row). row .ink) same-row) (ink-told m _ a (field-read-in loose (inkField m) a newline (drop at s) rest at place f .0)))
+        let same-row : _≡_ {A = Row} (record { index = q; ink = ink }) (record { index = p; ink = a }) = cc in (
+          ap (λ (row : Row). row .index) same-row,
+          rw (ap (λ (row : Row). row .ink) same-row)
+              (ink-told m _ a (field-read-in loose (inkField m) a newline (drop at s) rest at place f .0)),
+        )
     go (turnedBack number place) f h = let z : _≡_ {A = ℕ} 0 1 = cc in absurd (omega arith)
 
 -- ---- the whole row

@@ -1,16 +1,9 @@
 -- The rows of a loose sheet, one after the other.
 -- Assumes nothing.
-use Prim.Native.Nat.{ℕ, zero, suc, _+_, _-_, _^_, _≤_, _<_}
-use mathlib.Core.Path.{_≡_, refl, sym, ap, _∙_}
-use mathlib.Core.Bool.{Bool, true, false}
+use Rattle.laws.specs.Prelude.{ℕ, _<_, _≤_, _+_, _-_, _^_, suc, zero, _≡_, _∙_, sym, ap, refl, true, false, Bool, List, [], _∷_, _++_, map, zero-add}
+use Rattle.laws.specs.Prelude.{sub-zero, arith, eqb, length, getD, take, drop, set, replicate, getD-set-same, getD-set-other, length-take-le, getD-take}
+use Rattle.laws.specs.Prelude.{ext-getD, eq-eqb, eqb-true, eqb-false}
 use mathlib.Core.Option.{some}
-use mathlib.Core.List.{List, [], _∷_, _++_, map}
-use native.Mathlib.Nat.{sub-zero, zero-add}
-use native.Mathlib.Omega.{arith}
-use lib.ListN.{length, take, drop, getD, set, replicate}
-use lib.Seq.{getD-set-same, getD-set-other, getD-take, length-take-le, ext-getD}
-use lib.Dec.{eqb}
-use borrow.Author.Tests.{eqb-true, eqb-false, eq-eqb}
 use Rattle.rules.specs.Lists.{range, any, find}
 use Rattle.rules.specs.Sheets.Fields.{then}
 use Rattle.rules.specs.Sheets.LooseSheet.{Row, isOf, inkOf, inkNamed, looseRows}
@@ -119,7 +112,11 @@ module _ (s : List ℕ) (at m n : ℕ) (cells given : List ℕ) (place k : ℕ) 
       record {
         rows = before .rows;
         reads = sym (rw none-left at (before .reads));
-        held = λ _ _ _. record { inks = front; below = at-below (suc m) (take (m ^ n) cells) (λ p h. rw (getD-take (m ^ n) cells p 0 (within p h)) (before .below p (within p h))) };
+        held = λ _ _ _. record {
+          inks = front;
+          below = at-below (suc m) (take (m ^ n) cells)
+              (λ p h. rw (getD-take (m ^ n) cells p 0 (within p h)) (before .below p (within p h)));
+        };
       }
     where
       long : length (take (m ^ n) cells) ≡ m ^ n
@@ -184,7 +181,8 @@ module _ (s : List ℕ) (at m n : ℕ) (cells given : List ℕ) (place k : ℕ) 
               any-other q (before .rows) named-row e
               ∙ before .marks .left q h (sym (getD-set-other given p q 1 0 (λ y. eqb-false p q e (sym y))) ∙ x)
 
-          inks : (q : ℕ) → q < m ^ n → p < m ^ n → getD given p 0 ≡ 0 → (t : Bool) → eqb p q ≡ t → getD (set cells p ink) q 0 ≡ inkNamed (before .rows ++ (named-row ∷ [])) q
+          inks : (q : ℕ) → q < m ^ n → p < m ^ n → getD given p 0 ≡ 0 → (t : Bool) → eqb p q ≡ t
+              → getD (set cells p ink) q 0 ≡ inkNamed (before .rows ++ (named-row ∷ [])) q
           inks q h low fresh true e =
               rw (← (eqb-true p q e))
               (getD-set-same cells p ink 0 (omega arith) ∙ sym (ink-last p (before .rows) named-row (eq-eqb p p refl) (before .marks .left p low fresh)))

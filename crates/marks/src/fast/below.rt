@@ -1,17 +1,17 @@
 // Marks every group except the whole one, by rising number. What is recorded for the groups below a group shows whether it has few classes. A group
-// with an idle member takes the mark of the rest, and nothing is recorded for it.
+// with an idle member takes the mark of the rest, and nothing is recorded for it: such marks are copied, many at a time.
 ghost use mathlib.Core.Path.{_≡_};
 ghost use mathlib.Core.Bool.{cond};
-ghost use Prim.Native.Nat.{_-_, _^_, _≤_, _<_};
+ghost use Prim.Native.Nat.{ℕ, _+_, _-_, _^_, _≤_, _<_};
 ghost use lib.Dec.{eqb};
 ghost use lib.ListN.{length};
 ghost use Rattle.rules.specs.Limits.{mostLevels};
 ghost use Rattle.rules.specs.Groups.Marks.{markIn};
 ghost use Rattle.rules.specs.Calls.Answers.{inkIn};
 ghost use Rattle.radix.specs.Widths.{groupsEnd};
+ghost use Rattle.representatives.specs.Copies.{Copied};
 ghost use Rattle.representatives.specs.Steps.{Work};
-ghost use Rattle.marks.specs.Marking.{Below};
-ghost use Rattle.marks.specs.Fast.Below.{MarkBy, NextMark, GroupMarked, MoreIdle};
+ghost use Rattle.marks.specs.Fast.Below.{MarkBy, NextMark, GroupMarked, MoreIdle, CopiesPassed, FewWithout, BelowWhole};
 use crate::group_mark;
 use crate::own;
 use radix::members;
@@ -41,6 +41,18 @@ fn idle_mark(marks: &[u8], rest: usize) -> u8
         return 2;
     }
     own::mark_at(marks, rest)
+}
+
+// Returns the mark of a group g that has at most m classes, from the marks of the groups below it.
+pub fn mark_without(marks: &[u8], g: usize, idle: usize) -> u8
+    requires { ⌜ (0 < g) × (g < groupsEnd) × (g < length (now marks)) ⌝ }
+    ensures { λ r. ⌜ FewWithout (now (marks .entry)) g idle r ⌝ }
+{
+    let rest = members::without(g, idle);
+    if rest == g {
+        return group_mark::few_mark(marks, g);
+    }
+    idle_mark(marks, rest)
 }
 
 // Returns `idle` with the members of group g added, if g has one class. Nothing is known about a group that has a member in `idle`.
@@ -99,7 +111,46 @@ fn mark_next(
     mark_by(marks, g, count)
 }
 
-// Writes the mark of every group except the whole one.
+// Copies the marks of the `count` groups from a on to the groups from b on.
+fn copy_marks(marks: &mut [u8], a: usize, b: usize, count: usize)
+    requires { ⌜ (a + count ≤ b) × (b + count ≤ length (now marks)) ⌝ }
+    ensures { λ _. ⌜ Copied (now (marks .entry)) a (now (marks .entry)) b count (now (marks .exit)) ⌝ }
+{
+    let mut k: usize = 0;
+    while k < count {
+        marks[b + k] = marks[a + k];
+        k += 1;
+    }
+}
+
+// Returns the lower of two numbers.
+fn lower(x: usize, y: usize) -> usize
+    ensures { λ r. ⌜ (r ≤ x) × (r ≤ y) × ((g : ℕ) → g < x → g < y → g < r) ⌝ }
+{
+    if x < y {
+        return x;
+    }
+    y
+}
+
+// Returns the next group to mark after g. If g's first-listed input is idle, the next groups that hold it take the marks of the groups without it.
+fn pass_copies(marks: &mut [u8], idle: usize, g: usize, end: usize) -> usize
+    requires { ⌜ (g < end) × (end ≤ groupsEnd) × (end ≤ length (now marks)) ⌝ }
+    ensures { λ r. ⌜ CopiesPassed idle g end (now (marks .entry)) r (now (marks .exit)) ⌝ }
+{
+    if g == 0 {
+        return 1;
+    }
+    if members::member_of(idle, members::first_of(g)) {
+        let rest = members::without_first(g);
+        let next = lower(g + (g - rest), end);
+        copy_marks(marks, rest + 1, g + 1, next - g - 1);
+        return next;
+    }
+    g + 1
+}
+
+// Writes the mark of every group except the whole one, and returns a group of idle inputs.
 pub fn mark_below(
     m: usize,
     n: usize,
@@ -111,10 +162,10 @@ pub fn mark_below(
     ys: &mut [u16],
     firsts: &mut [u16],
     marks: &mut [u8],
-)
+) -> usize
     requires { ⌜ (Work m n (now cells) (now weights) (now counts) (now kept) (now xs) (now ys) (now firsts))
         × (m ≤ mostLevels) × (2 ^ n ≤ length (now marks)) ⌝ }
-    ensures { λ _. ⌜ Below m n (inkIn (now (cells .entry))) (now (marks .entry)) (2 ^ n - 1) (now (marks .exit)) ⌝ }
+    ensures { λ r. ⌜ BelowWhole m n (inkIn (now (cells .entry))) (now (marks .entry)) r (now (marks .exit)) ⌝ }
 {
     let end = powers::power(2, n) - 1;
     let mut idle: usize = 0;
@@ -139,6 +190,7 @@ pub fn mark_below(
         );
         own::put_mark(marks, g, mark);
         idle = more_idle(counts, g, idle);
-        g += 1;
+        g = pass_copies(marks, idle, g, end);
     }
+    idle
 }

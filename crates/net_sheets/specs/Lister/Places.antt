@@ -1,10 +1,7 @@
 -- A lister's place. "it starts only on an accepted sheet": after k turns on one, its place is where line 4 + k begins, counted from 0, or the
 -- sheet's end if there is no such line. On any other sheet its place is the end from the start, where no line is left.
 -- Assumes nothing.
-use Prim.Native.Nat.{ℕ, _+_, min}
-use mathlib.Core.Path.{_≡_}
-use mathlib.Core.List.{List}
-use lib.ListN.{length, drop}
+use Rattle.laws.specs.Prelude.{ℕ, _+_, min, _≡_, List, length, drop}
 use Rattle.rules.specs.Calls.Answers.{accepted, refused}
 use Rattle.rules.specs.Sheets.Reading.{readNet}
 use Rattle.rules.specs.Calls.Lister.{lineLength, afterLines}

@@ -2,10 +2,7 @@
 -- turn k of `listing`, and `done` and `line` then answer for that turn. The fields of a lister are private to its module, so code elsewhere
 -- has no other lister.
 -- Assumes nothing.
-use Prim.Native.Nat.{ℕ, zero, suc}
-use mathlib.Core.Path.{_≡_, ap, ap₂, _∙_}
-use mathlib.Core.List.{List}
-use native.Mathlib.Numerals.{add-one}
+use Rattle.laws.specs.Prelude.{ℕ, suc, zero, _≡_, _∙_, ap, ap₂, List, add-one}
 use denote.Ref.{RefT, now}
 use Rattle.rules.specs.Calls.Answers.{refused}
 use Rattle.rules.specs.Sheets.Reading.{readNet}
@@ -47,7 +44,8 @@ module _ (sheet : RefT (List ℕ)) where
       ap₂ (λ (t : RefT (List ℕ)) (at : ℕ). turnAt (now t) at) same place ∙ turn-stands (now sheet) k
 
   -- its answers are those for turn k
-  pub reached-says : {A : Type 0} {k : ℕ} {d : Lister} (f : Turn → A) (r : A) → NetReached sheet k d → Says (now (d .sheet)) (d .at) f r → r ≡ f (turnIn (listing (now sheet) k))
+  pub reached-says : {A : Type 0} {k : ℕ} {d : Lister} (f : Turn → A) (r : A) → NetReached sheet k d → Says (now (d .sheet)) (d .at) f r
+      → r ≡ f (turnIn (listing (now sheet) k))
   reached-says f r reached says = says .here ∙ ap f (reached-turn reached)
 
   -- "it starts only on an accepted sheet": on any other no line is left, at any turn

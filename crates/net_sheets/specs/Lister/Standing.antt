@@ -1,13 +1,7 @@
 -- The place of a lister after k turns is one turn after the previous place, stays at the sheet's end, and has turn k of `listing`.
 -- Assumes nothing.
-use Prim.Native.Nat.{ℕ, zero, suc, _+_, _-_, _≤_, _<_, min}
-use mathlib.Core.Path.{_≡_, refl, sym, ap, _∙_, subst}
-use mathlib.Core.List.{List}
-use native.Mathlib.Nat.{add-zero, add-suc}
-use native.Mathlib.Decide.{decLe, decLt}
-use native.Mathlib.Omega.{arith}
-use lib.ListN.{length}
-use borrow.Author.Tests.{lt-ltb, le-ltb}
+use Rattle.laws.specs.Prelude.{ℕ, _<_, _≤_, _+_, _-_, suc, zero, min, _≡_, _∙_, sym, ap, refl, subst, List, add-zero, add-suc, decLt, decLe, arith, length}
+use Rattle.laws.specs.Prelude.{lt-ltb, le-ltb}
 use Rattle.rules.specs.Sheets.Sheets.{Net}
 use Rattle.rules.specs.Calls.Answers.{Answer, accepted, refused, onward}
 use Rattle.rules.specs.Sheets.Reading.{readNet}
@@ -57,7 +51,8 @@ module _ (s : List ℕ) where
   line-stays : (j k : ℕ) → j ≤ k → length s ≤ lineStart s (4 + j) → lineStart s (4 + j) ≡ lineStart s (4 + k)
   unfolding lineStart
   line-stays j k h e =
-      let m : afterLines s (4 + j) ≤ afterLines s (4 + k) = subst (λ (i : ℕ). afterLines s (4 + j) ≤ afterLines s i) (omega arith) (after-more (4 + j) (k - j)) in
+      let m : afterLines s (4 + j) ≤ afterLines s (4 + k) = subst (λ (i : ℕ). afterLines s (4 + j) ≤ afterLines s i) (omega arith)
+      (after-more (4 + j) (k - j)) in
       omega arith
 
   -- a lister at the sheet's end stays there

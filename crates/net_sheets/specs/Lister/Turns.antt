@@ -1,11 +1,6 @@
 -- What a lister gives at a place, and at its k-th turn.
 -- Assumes nothing.
-use Prim.Native.Nat.{ℕ, _+_}
-use mathlib.Core.Path.{_≡_}
-use mathlib.Core.Bool.{Bool, true, false}
-use mathlib.Core.List.{List, []}
-use lib.ListN.{length, drop}
-use lib.Dec.{ltb}
+use Rattle.laws.specs.Prelude.{ℕ, _+_, _≡_, true, false, Bool, List, [], ltb, length, drop}
 use denote.Ref.{RefT, now}
 use Rattle.rules.specs.Calls.Answers.{Answer, accepted, refused}
 use Rattle.rules.specs.Calls.Lister.{lineLength, Turn, gateAt, noneLeft, listing}

@@ -1,13 +1,7 @@
 -- A net's gates: what printing them requires, and the lines printed.
 -- Assumes nothing.
-use Prim.Native.Nat.{ℕ, _+_, _-_, _*_, _≤_, _<_}
-use mathlib.Core.Path.{_≡_, ap, _∙_}
-use mathlib.Core.List.{List, [], _∷_, _++_, map, append-assoc}
-use native.Mathlib.Nat.{zero-add, mul-le-mul-right, sub-zero}
-use native.Mathlib.Omega.{arith}
-use borrow.Author.Tests.{lt-ltb, le-ltb}
-use lib.ListN.{length, getD, drop, length-take}
-use lib.Seq.{getD-take, getD-drop}
+use Rattle.laws.specs.Prelude.{ℕ, _<_, _≤_, _+_, _-_, _*_, _≡_, _∙_, ap, List, [], _∷_, _++_, map, append-assoc, zero-add, sub-zero, mul-le-mul-right}
+use Rattle.laws.specs.Prelude.{arith, length, getD, drop, length-take, getD-take, getD-drop, lt-ltb, le-ltb}
 use Rattle.rules.specs.Lists.{range, concatMap}
 use Rattle.rules.specs.Limits.{mostInputs}
 use Rattle.rules.specs.Text.{text, decimal}

@@ -1,12 +1,7 @@
 -- A net that keeps the rules of a net sheet meets the requirements of printing.
 -- Assumes nothing.
-use Prim.Native.Nat.{ℕ, zero, suc, _-_, _*_, _/_, _%_, _≤_, _<_}
-use mathlib.Core.Path.{_≡_, sym, ap, subst, _∙_}
-use mathlib.Core.List.{List, [], _∷_}
-use native.Mathlib.Nat.{le-trans, mul-le-mul-right, zero-add, mul-zero, mod-lt, div-add-mod', div-lt-iff-lt-mul}
-use native.Mathlib.Omega.{arith}
-use lib.ListN.{length, getD, drop}
-use lib.Seq.{getD-take, getD-drop}
+use Rattle.laws.specs.Prelude.{ℕ, _<_, _≤_, _-_, suc, _*_, zero, _%_, _/_, _≡_, _∙_, sym, ap, subst, List, [], _∷_, zero-add, mul-le-mul-right, le-trans}
+use Rattle.laws.specs.Prelude.{mod-lt, div-lt-iff-lt-mul, div-add-mod', mul-zero, arith, length, getD, drop, getD-take, getD-drop}
 use Rattle.rules.specs.Sheets.Sheets as sheets
 use Rattle.rules.specs.Sheets.SheetRules.{NetRules, GateTable, Tables}
 use Rattle.nets.specs.declared.forms.Header.{Header}
@@ -32,7 +27,8 @@ factor-positive a (suc b) i h = omega arith
 module _ (net : Net) (tables : Tables (net .levels) (gatesOf net)) where
   gate-table : (k : ℕ) → k < net .gates → GateTable (net .levels) (gateOf net k .digits)
   unfolding gatesOf
-  gate-table k h = subst (λ (g : sheets.Gate). GateTable (net .levels) (g .digits)) at (tables-at (net .levels) (gatesOf net) k (gateOf net 0) tables (rw gates-length h))
+  gate-table k h =
+      subst (λ (g : sheets.Gate). GateTable (net .levels) (g .digits)) at (tables-at (net .levels) (gatesOf net) k (gateOf net 0) tables (rw gates-length h))
     where
       at : getD (gatesOf net) k (gateOf net 0) ≡ gateOf net k
       at = map-range-at (gateOf net) 0 (net .gates) k (gateOf net 0) h ∙ ap (gateOf net) (zero-add k)
@@ -47,7 +43,8 @@ module _ (net : Net) (tables : Tables (net .levels) (gatesOf net)) where
       let table = gate-table k (div-lt-iff-lt-mul pos .1 h) in
       let below : j < size = mod-lt i pos in
       let here : getD (gateOf net k .digits) j 0 ≡ getD (net .digits) i 0 =
-      getD-take size (drop (k * size) (net .digits)) j 0 below ∙ getD-drop (k * size) (net .digits) j 0 ∙ ap (λ (q : ℕ). getD (net .digits) q 0) (div-add-mod' i size) in
+      getD-take size (drop (k * size) (net .digits)) j 0 below ∙ getD-drop (k * size) (net .digits) j 0
+      ∙ ap (λ (q : ℕ). getD (net .digits) q 0) (div-add-mod' i size) in
       subst (λ (d : ℕ). d < net .levels) here (table .below j (omega (arith, table .count)))
 
 pub gates-inside : (s : List ℕ) (h : Header) (net : Net) → net .levels ≡ h .levels → NetRules (netIn s h net) → GatesInside net

@@ -1,10 +1,6 @@
 -- The meaning of the calls' answers and buffers, and the outcomes as the code computes them.
 -- Assumes nothing.
-use Prim.Native.Nat.{ℕ, _-_, _≤_, _<_}
-use mathlib.Core.Path.{_≡_, sym, ap, _∙_, subst}
-use mathlib.Core.List.{List}
-use native.Mathlib.Omega.{arith}
-use lib.ListN.{length, take}
+use Rattle.laws.specs.Prelude.{ℕ, _<_, _≤_, _-_, _≡_, _∙_, sym, ap, subst, List, arith, length, take}
 use Rattle.rules.specs.Calls.Settling.{writtenSheet}
 use Rattle.rules.specs.Calls.Answers.{accepted, refused, written}
 use Rattle.laws.specs.Calls.Settling.{sheet-15, sheet-written}
@@ -29,5 +25,11 @@ module _ (sheet own buffer output : List ℕ) (count : ℕ) (did : NetWrote own 
       → record { answer = accepted count; cells = cells; marks = marks; output = after } ≡ writtenSheet sheet cells marks output
   sheet-copied h after next put cells marks =
       let fits : length (take (count - 0) buffer) ≤ length output = omega (arith, did .length, ap length printed-front) in
-      (λ i. record { answer = accepted (did .length i); cells = cells; marks = marks; output = (put-wrote fits put .text ∙ ap (written output) printed-front) i })
+      (λ i. record {
+        answer = accepted (did .length i);
+        cells = cells;
+        marks = marks;
+        output =
+            (put-wrote fits put .text ∙ ap (written output) printed-front) i;
+      })
       ∙ sym (sheet-written sheet cells marks output (subst (λ (k : ℕ). k ≤ length output) (did .length) h))

@@ -1,15 +1,8 @@
 -- A gate's digits.
 -- Assumes nothing.
-use Prim.Native.Nat.{ℕ, _+_, _-_, _*_, _≤_, _<_}
-use mathlib.Core.Path.{_≡_, refl, sym, ap, _∙_}
-use mathlib.Core.Bool.{Bool, true, false, _&&_, and-false, and-eq-true-iff}
-use mathlib.Core.List.{List, map}
-use native.Mathlib.Omega.{arith}
-use native.Mathlib.Numerals.{add-one}
-use lib.ListN.{length, take, drop, getD, set, length-drop, length-map, List·getD-map}
-use lib.Seq.{length-take-le, getD-take, getD-drop, paste, paste-suc}
-use lib.Dec.{eqb, leb, ltb}
-use borrow.Author.Tests.{lt-leb, le-leb, le-ltb, lt-ltb, eq-eqb, ne-eqb, eqb-true, leb-true}
+use Rattle.laws.specs.Prelude.{ℕ, _<_, _≤_, _+_, _-_, _*_, _≡_, _∙_, sym, ap, refl, true, false, Bool, _&&_, and-eq-true-iff, and-false, List, map}
+use Rattle.laws.specs.Prelude.{add-one, arith, eqb, ltb, leb, length, getD, take, drop, set, length-map, length-drop, List·getD-map, length-take-le}
+use Rattle.laws.specs.Prelude.{getD-take, getD-drop, paste, paste-suc, eq-eqb, eqb-true, ne-eqb, lt-ltb, le-ltb, le-leb, lt-leb, leb-true}
 use Rattle.rules.specs.Lists.{all}
 use Rattle.rules.specs.Text.{isDigit, zeroByte, newlineByte}
 use Rattle.rules.specs.Sheets.Fields.{good, field, run}

@@ -1,23 +1,28 @@
 -- All gate lines.
 -- Assumes nothing.
-use Prim.Native.Nat.{ℕ, suc, _+_, _-_, _≤_, _<_}
-use mathlib.Core.Path.{_≡_, refl, sym, ap, _∙_}
-use mathlib.Core.List.{List, [], _∷_, _++_}
-use native.Mathlib.Omega.{arith}
-use lib.ListN.{length, drop, drop-of-length-le}
-use lib.Seq.{drop-cons}
+use Rattle.laws.specs.Prelude.{ℕ, _<_, _≤_, _+_, _-_, suc, _*_, _≡_, _∙_, refl, false, Bool, List, [], _∷_, _++_, add-zero, sub-zero, add-assoc, arith}
+use Rattle.laws.specs.Prelude.{length, drop, replicate, drop-of-length-le, drop-cons, paste}
 use Rattle.rules.specs.Lists.{range}
-use Rattle.rules.specs.Sheets.Fields.{Read, read, turnedBack, Reader, then, give}
-use Rattle.rules.specs.Sheets.Sheets as sheets
-use Rattle.rules.specs.Sheets.Sheets.{gateLine, orEnd, gateLines}
+use Rattle.rules.specs.Sheets.Fields.{then}
+use Rattle.rules.specs.Sheets.Sheets.{usedBy, gateLine, orEnd, gateLines}
+use Rattle.laws.specs.Numbers.Sizes.{sized}
 use Rattle.fields.specs.Chained.{never-both}
 use Rattle.fields.specs.Header.FirstLines.{HeaderHeld}
 use Rattle.fields.specs.Steps.{stepAs}
 use Rattle.fields.specs.declared.steps.Step.the-variants.{On, Back}
-use Rattle.nets.specs.Forms.{gatesOf, noGates, namesIn}
+use Rattle.nets.specs.Forms.{gatesOf, noGates, namesIn, names-count}
+use Rattle.nets.specs.Growing.{grown}
+use Rattle.nets.specs.Room.{mostWires, mostDigits, gate-room}
+use Rattle.nets.specs.Sound.{gates-length}
 use Rattle.nets.specs.declared.forms.Header.{Header}
 use Rattle.nets.specs.declared.forms.Net.{Net}
-use Rattle.net_sheets.specs.Reader.Gates.{NetForm, GateRest, GateRoom, oneGate}
+use Rattle.net_sheets.specs.Reader.Digits.{digitsAt, net-digits-count}
+use Rattle.net_sheets.specs.Reader.Gates.{NetForm, NetGrown, form-grown, lineAs, LineRead, WholeLine}
+use Rattle.net_sheets.specs.Reader.Keys.{Keyed, NumberKeyed}
+use Rattle.net_sheets.specs.Reader.References.{Marked, none-marked, gate-marked}
+use Rattle.net_sheets.specs.declared.reader.gates.Line.{Line}
+use Rattle.net_sheets.specs.declared.reader.gates.Line.the-variants.{Gate}
+use Rattle.net_sheets.specs.declared.reader.gates.Line.the-variants as lines
 use Rattle.net_sheets.specs.declared.reader.gates.GatesRead.{GatesRead}
 
 -- a net whose number of gates is allowed under this header
@@ -32,46 +37,38 @@ pub record NetWhole (h : Header) (net : Net) : Type 0 where
 pub record GatesAll (s : List ℕ) (at : ℕ) (h : Header) (r : GatesRead) : Type 0 where
   pub reads : stepAs (λ _. gatesOf (r .net)) s (r .step) ≡ gateLines (h .levels) (namesIn s h) (h .inputs - 1) [] (drop at s) at
   pub whole : (value next : ℕ) → r .step ≡ On value next → NetWhole h (r .net)
+  pub marked : (value next : ℕ) → r .step ≡ On value next → Marked (r .used) (usedBy (gatesOf (r .net)))
 
--- the sheet's end after these gates, or further gate lines
-abbrev orMore : ℕ → List (List ℕ) → ℕ → List sheets.Gate → Reader (List sheets.Gate)
-orMore m names count gates = orEnd gates (gateLines m names count gates)
-
--- one gate line, then that
-gates-more : (m : ℕ) (names : List (List ℕ)) (count : ℕ) (earlier : List sheets.Gate) (t : List ℕ) (at : ℕ)
-    → gateLines m names (suc count) earlier t at ≡ then (oneGate m names earlier t at) (orMore m names count)
-unfolding gateLines oneGate then
-gates-more m names count earlier t at = one (gateLine m names earlier t at)
-  where
-    one : (x : Read sheets.Gate) → then x (λ g. orMore m names count (earlier ++ (g ∷ []))) ≡ then (then x (λ g. give (earlier ++ (g ∷ [])))) (orMore m names count)
-    one (read g rest place) = refl
-    one (turnedBack number place) = refl
-
--- the loop's state: k − 1 gates are read, and the gates from here are the gates from the start
-pub record Building (s : List ℕ) (at : ℕ) (h : Header) (net : Net) (place k : ℕ) : Type 0 where
+-- the loop's state: the net's gates are read, and the gates from here are the gates from the start
+pub record Building (s : List ℕ) (at : ℕ) (h : Header) (keys lens : List ℕ) (net : Net) (used : List Bool) (place : ℕ) : Type 0 where
   pub form : NetForm net
   pub levels : net .levels ≡ h .levels
   pub inputs : net .inputs ≡ h .inputs
-  pub count : net .gates + 1 ≡ k
-  pub most : k ≤ h .inputs
+  pub most : net .gates < h .inputs
+  pub marked : Marked used (usedBy (gatesOf net))
+  pub keyed : Keyed (namesIn s h) keys lens (h .inputs + net .gates)
   pub reads : gateLines (h .levels) (namesIn s h) (h .inputs - 1) [] (drop at s) at
-      ≡ gateLines (h .levels) (namesIn s h) (h .inputs - k) (gatesOf net) (drop place s) place
+      ≡ gateLines (h .levels) (namesIn s h) (h .inputs - 1 - net .gates) (gatesOf net) (drop place s) place
 
-pub build-start : (s : List ℕ) (at : ℕ) (h : Header) → 2 ≤ h .inputs → Building s at h (noGates (h .levels) (h .inputs)) at 1
-unfolding gatesOf range noGates
-build-start s at h two =
-    record {
+pub build-start : (s : List ℕ) (at : ℕ) (h : Header) (keys lens : List ℕ) (net : Net) → 2 ≤ h .inputs → Keyed (namesIn s h) keys lens (h .inputs)
+    → net ≡ noGates (h .levels) (h .inputs) → Building s at h keys lens net (replicate mostWires false) at
+unfolding gatesOf range noGates usedBy
+build-start s at h keys lens net two keyed is =
+    rw is
+    (record {
       form = record { lefts = refl; rights = refl; digits = refl };
       levels = refl;
       inputs = refl;
-      count = refl;
       most = omega arith;
-      reads = refl;
-    }
+      marked = none-marked;
+      keyed = rw add-zero keyed;
+      reads = rw sub-zero refl;
+    })
 
-module _ (s : List ℕ) (at : ℕ) (h : Header) (net : Net) (place k : ℕ) (building : Building s at h net place k) where
+module _ (s : List ℕ) (at : ℕ) (h : Header) (keys lens : List ℕ) (net : Net) (used : List Bool) (place : ℕ)
+    (building : Building s at h keys lens net used place) where
   -- all possible lines are read
-  pub build-done : 2 ≤ h .inputs → h .inputs ≤ k → GatesAll s at h (record { step = On 0 place; net = net })
+  pub build-done : 2 ≤ h .inputs → h .inputs ≤ net .gates + 1 → GatesAll s at h (record { step = On 0 place; net = net; used = used })
   unfolding gateLines
   build-done two done =
       record {
@@ -81,66 +78,88 @@ module _ (s : List ℕ) (at : ℕ) (h : Header) (net : Net) (place k : ℕ) (bui
               form = building .form;
               levels = building .levels;
               inputs = building .inputs;
-              some = omega (arith, building .count);
-              count = omega (arith, building .count, building .most);
+              some = omega arith;
+              count = building .most;
             };
+        marked = λ _ _ _. building .marked;
       }
     where
-      none-left : h .inputs - k ≡ 0
+      none-left : h .inputs - 1 - net .gates ≡ 0
       none-left = omega arith
 
-  module _ (more : k < h .inputs) where
-    pub build-room : HeaderHeld s h → GateRoom s h net
-    build-room held =
-        record { held = held; form = building .form; levels = building .levels; inputs = building .inputs; room = omega (arith, building .count) }
+  module _ (more : net .gates + 1 < h .inputs) (after : List Bool) (r : Line)
+      (read-line : WholeLine s place (h .levels) keys lens (h .inputs + net .gates) used after r) where
+    pub built-line : LineRead s place (h .levels) (gateLine (h .levels) (namesIn s h) (gatesOf net)) (gatesOf net) after r
+    built-line =
+        read-line (namesIn s h) (building .keyed) (gatesOf net) (omega (arith, gates-length net, names-count s h)) (building .marked)
 
-    module _ (r : GatesRead) (line : GateRest s place (oneGate (net .levels) (namesIn s h) (gatesOf net)) net r) where
-      onward : gateLines (h .levels) (namesIn s h) (h .inputs - 1) [] (drop at s) at
-          ≡ then (stepAs (λ _. gatesOf (r .net)) s (r .step)) (orMore (h .levels) (namesIn s h) (h .inputs - (k + 1)))
-      onward =
-          building .reads
-          ∙ (ap (λ c. gateLines (h .levels) (namesIn s h) c (gatesOf net) (drop place s) place) counted
-          ∙ (gates-more (h .levels) (namesIn s h) (h .inputs - (k + 1)) (gatesOf net) (drop place s) place
-          ∙ ap (λ x. then x (orMore (h .levels) (namesIn s h) (h .inputs - (k + 1))))
-          (ap (λ m. oneGate m (namesIn s h) (gatesOf net) (drop place s) place) (sym (building .levels)) ∙ sym (line .reads))))
-        where
-          counted : h .inputs - k ≡ suc (h .inputs - (k + 1))
-          counted = omega arith
+    onward : gateLines (h .levels) (namesIn s h) (h .inputs - 1) [] (drop at s) at
+        ≡ then (lineAs (h .levels) s r)
+        (λ g. orEnd (gatesOf net ++ (g ∷ [])) (gateLines (h .levels) (namesIn s h) (h .inputs - 1 - (net .gates + 1)) (gatesOf net ++ (g ∷ []))))
+    unfolding gateLines then
+    onward = rw (building .reads, counted, ← built-line .reads) refl
+      where
+        counted : h .inputs - 1 - net .gates ≡ suc (h .inputs - 1 - (net .gates + 1))
+        counted = omega arith
 
-      pub build-back : (number back : ℕ) → r .step ≡ Back number back → GatesAll s at h r
-      unfolding then
-      build-back number back e =
-          record { reads = rw (onward, e) refl; whole = λ value next q. absurd (never-both (r .step) number back value next e q) }
+    pub build-back : (number back : ℕ) → r ≡ lines.Back number back → GatesAll s at h (record { step = Back number back; net = net; used = after })
+    unfolding then
+    build-back number back e =
+        record {
+          reads = rw (onward, e) refl;
+          whole = λ value next q. absurd (never-both _ number back value next refl q);
+          marked = λ value next q. absurd (never-both _ number back value next refl q);
+        }
 
-      -- a line was read
-      module _ (value next : ℕ) (e : r .step ≡ On value next) where
-        -- the sheet ends after it
-        pub build-end : length s ≤ next → GatesAll s at h r
-        unfolding then orEnd
-        build-end end =
-            let grown = line .more value next e in
-            record {
-              reads = rw (onward, e, drop-of-length-le s end) refl;
-              whole = λ _ _ _.
-                  record {
-                    form = grown .form;
-                    levels = grown .levels ∙ building .levels;
-                    inputs = grown .inputs ∙ building .inputs;
-                    some = omega (arith, grown .count);
-                    count = omega (arith, grown .count, building .count);
-                  };
-            }
+    -- there is room for the line's digits
+    pub build-room : HeaderHeld s h → (net .gates + 1) * (h .levels * h .levels) ≤ mostDigits
+    build-room held = gate-room (h .levels) (h .inputs) (held .fits) (net .gates) (omega arith)
 
-        -- the sheet continues
-        pub build-next : next < length s → Building s at h (r .net) next (k + 1)
-        unfolding then orEnd
-        build-next goes =
-            let grown = line .more value next e in
-            record {
-              form = grown .form;
-              levels = grown .levels ∙ building .levels;
-              inputs = grown .inputs ∙ building .inputs;
-              count = omega (arith, grown .count, building .count);
-              most = omega arith;
-              reads = rw (onward, e, drop-cons s next 0) refl;
-            }
+    -- the net with the line's gate
+    pub build-grown : HeaderHeld s h → (left right digits next : ℕ) → r ≡ Gate left right digits next → (written : List ℕ)
+        → written ≡ paste (net .digits) (net .gates * (h .levels * h .levels)) (digitsAt s digits (h .levels * h .levels)) (h .levels * h .levels)
+        → NetGrown net (record { left = left; right = right; digits = digitsAt s digits (h .levels * h .levels) }) (grown net left right written)
+    build-grown held left right digits next e written pasted =
+        let size = sized (h .levels) (h .inputs) (held .fits) in
+        let within = built-line .held left right digits next e .digits .within in
+        form-grown net left right (digitsAt s digits (h .levels * h .levels)) written (building .form) (omega (arith, size .inputs-most))
+        (rw (building .levels) (build-room held)) (rw (building .levels) (net-digits-count s digits (h .levels * h .levels) within))
+        (rw (building .levels) pasted)
+
+    -- a line was read, and its gate is in the net
+    module _ (left right digits next : ℕ) (e : r ≡ Gate left right digits next) (more-net : Net)
+        (is : NetGrown net (record { left = left; right = right; digits = digitsAt s digits (h .levels * h .levels) }) more-net) where
+      built-marked : Marked after (usedBy (gatesOf more-net))
+      built-marked = rw (is .gates) (gate-marked after _ (gatesOf net) (built-line .held left right digits next e .marked))
+
+      -- the sheet ends after it
+      pub build-end : length s ≤ next → GatesAll s at h (record { step = On 0 next; net = more-net; used = after })
+      unfolding then orEnd
+      build-end end =
+          record {
+            reads = rw (onward, e, drop-of-length-le s end, is .gates) refl;
+            whole = λ _ _ _.
+                record {
+                  form = is .form;
+                  levels = is .levels ∙ building .levels;
+                  inputs = is .inputs ∙ building .inputs;
+                  some = omega (arith, is .count);
+                  count = omega (arith, is .count);
+                };
+            marked = λ _ _ _. built-marked;
+          }
+
+      -- the sheet continues
+      pub build-next : next < length s → (more-keys more-lens : List ℕ) → NumberKeyed (h .inputs) (net .gates) keys lens more-keys more-lens
+          → Building s at h more-keys more-lens more-net after next
+      unfolding then orEnd NumberKeyed
+      build-next goes more-keys more-lens numbered =
+          record {
+            form = is .form;
+            levels = is .levels ∙ building .levels;
+            inputs = is .inputs ∙ building .inputs;
+            most = omega (arith, is .count);
+            marked = built-marked;
+            keyed = rw (is .count, ← add-assoc) (numbered (namesIn s h) (names-count s h) (building .keyed));
+            reads = rw (onward, e, is .gates, is .count, drop-cons s next 0) refl;
+          }

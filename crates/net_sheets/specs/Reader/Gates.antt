@@ -1,31 +1,24 @@
 -- Gate lines, one after the other.
 -- Assumes nothing.
-use Prim.Native.Nat.{ℕ, _+_, _*_, _≤_, _<_}
-use mathlib.Core.Path.{_≡_, refl, sym, ap, _∙_}
-use mathlib.Core.List.{List, [], _∷_, _++_}
-use native.Mathlib.Omega.{arith}
-use lib.ListN.{length, drop, length-set}
-use lib.Seq.{paste, length-paste}
-use Rattle.rules.specs.Text.{space, newline, spaceByte, newlineByte}
-use Rattle.rules.specs.Sheets.Fields.{read, Reader, then, _>>=_, give, field}
+use Rattle.laws.specs.Prelude.{ℕ, _<_, _≤_, _+_, _*_, _≡_, _∙_, sym, ap, refl, Bool, List, [], _∷_, _++_, arith, length, drop, length-set, paste}
+use Rattle.laws.specs.Prelude.{length-paste}
+use Rattle.rules.specs.Text.{space, newline, newlineByte}
+use Rattle.rules.specs.Sheets.Fields.{Read, read, turnedBack, Reader, then, _>>=_, give, field}
 use Rattle.rules.specs.Sheets.Sheets as sheets
 use Rattle.rules.specs.Sheets.Sheets.{referenceField, digitsField, usedBy, gateLine}
-use Rattle.rules.specs.Limits.{mostLevels}
-use Rattle.fields.specs.Chained.{chained-back, chained-on, field-then-then, never-both}
-use Rattle.fields.specs.Header.FirstLines.{HeaderHeld}
 use Rattle.fields.specs.Steps.{stepAs, itself}
-use Rattle.laws.specs.Numbers.Sizes.{sized}
 use Rattle.fields.specs.declared.steps.Step.{Step}
-use Rattle.fields.specs.declared.steps.Step.the-variants.{On, Back}
-use Rattle.nets.specs.Forms.{gatesOf, namesIn, names-count}
+use Rattle.fields.specs.declared.steps.Step.the-variants.{On}
+use Rattle.fields.specs.declared.steps.Step.the-variants as steps
+use Rattle.nets.specs.Forms.{gatesOf}
 use Rattle.nets.specs.Growing.{grown, gates-grown}
-use Rattle.nets.specs.Sound.{gates-length}
-use Rattle.nets.specs.declared.forms.Header.{Header}
 use Rattle.nets.specs.declared.forms.Net.{Net}
-use Rattle.net_sheets.specs.Reader.Digits.{digitsAt, DigitsRead}
-use Rattle.net_sheets.specs.Reader.References.{spare}
-use Rattle.nets.specs.Room.{mostGates, mostDigits, gate-room}
-use Rattle.net_sheets.specs.declared.reader.gates.GatesRead.{GatesRead}
+use Rattle.net_sheets.specs.Reader.Digits.{areDigits, digitsAt, DigitsRead}
+use Rattle.net_sheets.specs.Reader.Keys.{Keyed}
+use Rattle.net_sheets.specs.Reader.References.{Marked, ReferenceRead}
+use Rattle.nets.specs.Room.{mostGates, mostWires, mostDigits}
+use Rattle.net_sheets.specs.declared.reader.gates.Line.{Line}
+use Rattle.net_sheets.specs.declared.reader.gates.Line.the-variants.{Gate, Back}
 
 -- a net with room for the largest size
 pub record NetForm (net : Net) : Type 0 where
@@ -65,188 +58,145 @@ form-grown net left right v digits form few room long pasted =
 
 -- ---- a gate line, field by field
 
--- the net has one more gate
-pub record More (net r : Net) : Type 0 where
-  pub form : NetForm r
-  pub levels : r .levels ≡ net .levels
-  pub inputs : r .inputs ≡ net .inputs
-  pub count : r .gates ≡ net .gates + 1
+-- a line in the sheet s with m levels
+abbrev pub lineAs : ℕ → List ℕ → Line → Read sheets.Gate
+lineAs m s (Gate left right digits next) = read (record { left = left; right = right; digits = digitsAt s digits (m * m) }) (drop next s) next
+lineAs m s (Back number place) = turnedBack number place
 
--- `reader` reads the rest of a gate line, and gives the gates with one more
-pub record GateRest (s : List ℕ) (at : ℕ) (reader : Reader (List sheets.Gate)) (net : Net) (r : GatesRead) : Type 0 where
-  pub reads : stepAs (λ _. gatesOf (r .net)) s (r .step) ≡ reader (drop at s) at
-  pub more : (value next : ℕ) → r .step ≡ On value next → More net (r .net)
+-- document 01's gate line from its table field on, and from its right field on
+unfoldable pub digitsOnly : ℕ → ℕ → ℕ → Reader sheets.Gate
+digitsOnly m left right = field (digitsField m) newline >>= λ digits. give (record { left = left; right = right; digits = digits })
 
-abbrev pub withGate : List sheets.Gate → ℕ → ℕ → List ℕ → List sheets.Gate
-withGate earlier left right digits = earlier ++ (record { left = left; right = right; digits = digits } ∷ [])
+unfoldable pub rightOnly : ℕ → List (List ℕ) → List sheets.Gate → ℕ → Reader sheets.Gate
+rightOnly m names earlier left = field (referenceField names (length earlier) (left ∷ usedBy earlier)) space >>= digitsOnly m left
 
-unfoldable pub fromDigits : ℕ → List sheets.Gate → ℕ → ℕ → Reader (List sheets.Gate)
-fromDigits m earlier left right = field (digitsField m) newline >>= λ digits. give (withGate earlier left right digits)
+-- the digits of a line that was read
+pub record LineDigits (s : List ℕ) (m place : ℕ) : Type 0 where
+  pub within : place + m * m ≤ length s
+  pub digits : areDigits s place (m * m)
 
-unfoldable pub fromRight : ℕ → List (List ℕ) → List sheets.Gate → ℕ → Reader (List sheets.Gate)
-fromRight m names earlier left =
-    field (referenceField names (length earlier) (left ∷ usedBy earlier)) space >>= λ right. fromDigits m earlier left right
+-- reading the rest of a gate line from its table field on
+pub record DigitsLine (s : List ℕ) (at m left right : ℕ) (r : Line) : Type 0 where
+  pub reads : lineAs m s r ≡ digitsOnly m left right (drop at s) at
+  pub held : (a b digits next : ℕ) → r ≡ Gate a b digits next → (a ≡ left) × (b ≡ right) × LineDigits s m digits
 
--- document 01's gate line, added to the gates before it
-unfoldable pub oneGate : ℕ → List (List ℕ) → List sheets.Gate → Reader (List sheets.Gate)
-oneGate m names earlier = gateLine m names earlier >>= λ g. give (earlier ++ (g ∷ []))
+-- a line that was read after these gates: its references are small, and they are marked too
+pub record LineHeld (s : List ℕ) (m : ℕ) (gates : List sheets.Gate) (after : List Bool) (a b place : ℕ) : Type 0 where
+  pub left : a < mostWires
+  pub right : b < mostWires
+  pub digits : LineDigits s m place
+  pub marked : Marked after (b ∷ a ∷ usedBy gates)
 
--- a net with room for one more gate, under a sheet's header
-pub record GateRoom (s : List ℕ) (h : Header) (net : Net) : Type 0 where
-  pub held : HeaderHeld s h
-  pub form : NetForm net
-  pub levels : net .levels ≡ h .levels
-  pub inputs : net .inputs ≡ h .inputs
-  pub room : net .gates + 1 < h .inputs
+pub record LineRead (s : List ℕ) (at m : ℕ) (reader : Reader sheets.Gate) (gates : List sheets.Gate) (after : List Bool) (r : Line) : Type 0 where
+  pub reads : lineAs m s r ≡ reader (drop at s) at
+  pub held : (left right digits next : ℕ) → r ≡ Gate left right digits next → LineHeld s m gates after left right digits
 
--- the sheet is refused in the line
-module _ (s : List ℕ) (at : ℕ) (net : Net) {A : Type 0} (f : ℕ → A) (one : Reader A) (rest : A → Reader (List sheets.Gate)) (step : Step)
+-- from the right field on
+abbrev pub RightLine : List ℕ → ℕ → ℕ → List ℕ → List ℕ → ℕ → ℕ → List Bool → List Bool → Line → Type 0
+RightLine s at m keys lens count left used after r =
+    (names : List (List ℕ)) → Keyed names keys lens count → (gates : List sheets.Gate) → length names + length gates ≡ count → Marked used (left ∷ usedBy gates)
+    → LineRead s at m (rightOnly m names gates left) gates after r
+
+-- the whole line
+abbrev pub WholeLine : List ℕ → ℕ → ℕ → List ℕ → List ℕ → ℕ → List Bool → List Bool → Line → Type 0
+WholeLine s at m keys lens count used after r =
+    (names : List (List ℕ)) → Keyed names keys lens count → (gates : List sheets.Gate) → length names + length gates ≡ count → Marked used (usedBy gates)
+    → LineRead s at m (gateLine m names gates) gates after r
+
+-- a refused line is no gate
+never-gate : {A : Type 0} (number place left right digits next : ℕ) → Back number place ≡ Gate left right digits next → A
+never-gate number place left right digits next e = let z : _≡_ {A = ℕ} 0 1 = cc in absurd (omega arith)
+
+-- one field, then the rest
+module _ {A B : Type 0} (f : ℕ → A) (one : Reader A) (rest : A → Reader B) (s : List ℕ) (at : ℕ) (step : Step)
     (reads : stepAs f s step ≡ one (drop at s) at) where
-  gate-back : (number place : ℕ) (r : Step) → step ≡ Back number place → r ≡ Back number place
-      → GateRest s at (one >>= rest) net (record { step = r; net = net })
-  gate-back number place r e q =
+  field-back : (number place : ℕ) → step ≡ steps.Back number place → turnedBack number place ≡ (one >>= rest) (drop at s) at
+  unfolding then
+  field-back number place e = rw (← reads, e) refl
+
+  field-next : (value next : ℕ) (x : Read B) → step ≡ On value next → x ≡ rest (f value) (drop next s) next → x ≡ (one >>= rest) (drop at s) at
+  unfolding then
+  field-next value next x e onward = rw (← reads, e) onward
+
+module _ (s : List ℕ) (at m left right : ℕ) (step : Step) (digits : DigitsRead s at m step) where
+  pub digits-back : (number place : ℕ) → step ≡ steps.Back number place → DigitsLine s at m left right (Back number place)
+  unfolding digitsOnly newline
+  digits-back number place e =
       record {
-        reads = chained-back f one rest s at step reads (λ _. gatesOf net) r number place e q;
-        more = λ value next p. absurd (never-both r number place value next q p);
+        reads = field-back (λ count. digitsAt s at count) (field (digitsField m) newlineByte) _ s at step (digits .reads) number place e;
+        held = λ a b d next. never-gate number place a b d next;
       }
 
-  gate-on : (value next : ℕ) (r : GatesRead) → step ≡ On value next → GateRest s next (rest (f value)) net r
-      → GateRest s at (one >>= rest) net r
-  gate-on value next r e onward =
+  pub digits-on : (count next : ℕ) → step ≡ On count next → DigitsLine s at m left right (Gate left right at next)
+  unfolding digitsOnly newline
+  digits-on count next e =
       record {
-        reads = chained-on f one rest s at step reads (λ _. gatesOf (r .net)) (r .step) value next e (onward .reads);
-        more = onward .more;
+        reads =
+            field-next (λ count. digitsAt s at count) (field (digitsField m) newlineByte) _ s at step (digits .reads) count next _ e
+            (ap (λ k. read (record { left = left; right = right; digits = digitsAt s at k }) (drop next s) next) (sym (digits .count count next e)));
+        held = λ a b d end q. (
+          (cc),
+          (cc),
+          let here : at ≡ d = cc in
+              rw (← here) (record { within = digits .within count next e; digits = digits .digits count next e }),
+        );
       }
 
--- the line's last field
-pub gate-whole : (s : List ℕ) (at : ℕ) (net : Net) (left right : ℕ) (step : Step) (count next : ℕ) (r : Net)
-    → DigitsRead s at (net .levels) step → step ≡ On count next
-    → NetGrown net (record { left = left; right = right; digits = digitsAt s at (net .levels * net .levels) }) r
-    → GateRest s at (fromDigits (net .levels) (gatesOf net) left right) net (record { step = step; net = r })
-unfolding fromDigits newline
-gate-whole s at net left right step count next r digits e grown =
-    record {
-      reads =
-          chained-on (λ count. digitsAt s at count) (field (digitsField (net .levels)) newlineByte) (λ v. give (withGate (gatesOf net) left right v)) s at step
-          (digits .reads) (λ _. gatesOf r) step count next e
-          (ap (stepAs (λ _. gatesOf r) s) e
-          ∙ ap (λ gates. read gates (drop next s) next)
-          (grown .gates ∙ ap (λ k. withGate (gatesOf net) left right (digitsAt s at k)) (sym (digits .count count next e))));
-      more = λ _ _ _. record { form = grown .form; levels = grown .levels; inputs = grown .inputs; count = grown .count };
-    }
+module _ (s : List ℕ) (at m : ℕ) (keys lens : List ℕ) (count : ℕ) (used after : List Bool) (step : Step)
+    (reference : ReferenceRead s at keys lens count used after step) where
+  module _ (names : List (List ℕ)) (keyed : Keyed names keys lens count) (gates : List sheets.Gate)
+      (all : length names + length gates ≡ count) (list : List ℕ) (marked : Marked used list) (rest : ℕ → Reader sheets.Gate) where
+    one : Reader ℕ
+    one = field (referenceField names (length gates) list) space
 
-pub digits-back : (s : List ℕ) (at : ℕ) (net : Net) (left right : ℕ) (step : Step) (number place : ℕ)
-    → DigitsRead s at (net .levels) step → step ≡ Back number place
-    → GateRest s at (fromDigits (net .levels) (gatesOf net) left right) net (record { step = step; net = net })
-unfolding fromDigits newline
-digits-back s at net left right step number place digits e =
-    gate-back s at net (λ count. digitsAt s at count) (field (digitsField (net .levels)) newlineByte) (λ v. give (withGate (gatesOf net) left right v)) step
-    (digits .reads) number place step e e
+    one-reads : stepAs itself s step ≡ one (drop at s) at
+    unfolding one space
+    one-reads = reference .reads names (length gates) list all keyed marked
 
-module _ (s : List ℕ) (at : ℕ) (h : Header) (net : Net) (left : ℕ) (step : Step)
-    (reads : stepAs itself s step ≡ field (referenceField (namesIn s h) (net .gates) (left ∷ usedBy (gatesOf net))) spaceByte (drop at s) at) where
-  right-field : Reader ℕ
-  right-field = field (referenceField (namesIn s h) (length (gatesOf net)) (left ∷ usedBy (gatesOf net))) spaceByte
+    reference-back : (last : List Bool) (number place : ℕ) → step ≡ steps.Back number place → LineRead s at m (one >>= rest) gates last (Back number place)
+    reference-back last number place e =
+        record {
+          reads = field-back itself one rest s at step one-reads number place e;
+          held = λ a b d next. never-gate number place a b d next;
+        }
 
-  right-reads : stepAs itself s step ≡ right-field (drop at s) at
-  unfolding right-field
-  right-reads = rw (gates-length net) reads
+    reference-on : (value next : ℕ) (r : Line) → step ≡ On value next → lineAs m s r ≡ rest value (drop next s) next
+        → lineAs m s r ≡ (one >>= rest) (drop at s) at
+    reference-on value next r e onward = field-next itself one rest s at step one-reads value next (lineAs m s r) e onward
 
-  pub right-back : (number place : ℕ) → step ≡ Back number place
-      → GateRest s at (fromRight (net .levels) (namesIn s h) (gatesOf net) left) net (record { step = Back number place; net = net })
-  unfolding right-field fromRight space
-  right-back number place e =
-      gate-back s at net itself right-field (fromDigits (net .levels) (gatesOf net) left) step right-reads number place (Back number place) e refl
+  pub right-back : (left number place : ℕ) → step ≡ steps.Back number place → RightLine s at m keys lens count left used after (Back number place)
+  unfolding rightOnly one
+  right-back left number place e names keyed gates all marked =
+      reference-back names keyed gates all (left ∷ usedBy gates) marked (digitsOnly m left) after number place e
 
-  pub right-on : (value next : ℕ) (r : GatesRead) → step ≡ On value next
-      → GateRest s next (fromDigits (net .levels) (gatesOf net) left value) net r
-      → GateRest s at (fromRight (net .levels) (namesIn s h) (gatesOf net) left) net r
-  unfolding right-field fromRight space
-  right-on value next r e onward =
-      gate-on s at net itself right-field (fromDigits (net .levels) (gatesOf net) left) step right-reads value next r e onward
+  pub right-on : (left value next : ℕ) (r : Line) → left < mostWires → step ≡ On value next → DigitsLine s next m left value r
+      → RightLine s at m keys lens count left used after r
+  unfolding rightOnly one
+  right-on left value next r small e line names keyed gates all marked =
+      record {
+        reads = reference-on names keyed gates all (left ∷ usedBy gates) marked (digitsOnly m left) value next r e (line .reads);
+        held = λ a b d end q.
+            let (same-left, same-right, digits) = line .held a b d end q in
+            rw (same-left, same-right)
+            (record {
+              left = small;
+              right = reference .below value next e;
+              digits = digits;
+              marked = reference .marks (left ∷ usedBy gates) value next marked e;
+            });
+      }
 
--- ---- a gate line is document 01's
+  pub left-back : (number place : ℕ) → step ≡ steps.Back number place → WholeLine s at m keys lens count used after (Back number place)
+  unfolding gateLine rightOnly digitsOnly one
+  left-back number place e names keyed gates all marked =
+      reference-back names keyed gates all (usedBy gates) marked (rightOnly m names gates) after number place e
 
-module _ (m : ℕ) (names : List (List ℕ)) (earlier : List sheets.Gate) where
-  after : sheets.Gate → Reader (List sheets.Gate)
-  after g = give (earlier ++ (g ∷ []))
-
-  digitsOnly : ℕ → ℕ → Reader sheets.Gate
-  digitsOnly left right = field (digitsField m) newline >>= λ digits. give (record { left = left; right = right; digits = digits })
-
-  rightOnly : ℕ → Reader sheets.Gate
-  rightOnly left = field (referenceField names (length earlier) (left ∷ usedBy earlier)) space >>= digitsOnly left
-
-  digits-after : (left right : ℕ) (t : List ℕ) (at : ℕ) → then (digitsOnly left right t at) after ≡ fromDigits m earlier left right t at
-  unfolding digitsOnly fromDigits after then
-  digits-after left right t at = field-then-then (field (digitsField m) newline t at) _ after
-
-  right-after : (left : ℕ) (t : List ℕ) (at : ℕ) → then (rightOnly left t at) after ≡ fromRight m names earlier left t at
-  unfolding rightOnly fromRight
-  right-after left t at =
-      field-then-then (field (referenceField names (length earlier) (left ∷ usedBy earlier)) space t at) (digitsOnly left) after
-      ∙ ap (then (field (referenceField names (length earlier) (left ∷ usedBy earlier)) space t at)) (λ i right s p. digits-after left right s p i)
-
-  pub gate-line : (t : List ℕ) (at : ℕ)
-      → (field (referenceField names (length earlier) (usedBy earlier)) space >>= fromRight m names earlier) t at ≡ oneGate m names earlier t at
-  unfolding oneGate gateLine rightOnly digitsOnly after
-  gate-line t at =
-      sym
-      (field-then-then (field (referenceField names (length earlier) (usedBy earlier)) space t at) rightOnly after
-      ∙ ap (then (field (referenceField names (length earlier) (usedBy earlier)) space t at)) (λ i left s p. right-after left s p i))
-
-module _ (s : List ℕ) (at : ℕ) (h : Header) (net : Net) (nowhere : ℕ) (beyond : length (namesIn s h) + net .gates ≤ nowhere) (step : Step)
-    (reads : stepAs itself s step ≡ field (referenceField (namesIn s h) (net .gates) (nowhere ∷ usedBy (gatesOf net))) spaceByte (drop at s) at) where
-  left-field : Reader ℕ
-  left-field = field (referenceField (namesIn s h) (length (gatesOf net)) (usedBy (gatesOf net))) spaceByte
-
-  left-reads : stepAs itself s step ≡ left-field (drop at s) at
-  unfolding left-field
-  left-reads =
-      rw (gates-length net)
-      (reads ∙ ap (λ judge. field judge spaceByte (drop at s) at) (spare (namesIn s h) (net .gates) (usedBy (gatesOf net)) nowhere beyond))
-
-  whole-line : (r : GatesRead) → GateRest s at (left-field >>= fromRight (net .levels) (namesIn s h) (gatesOf net)) net r
-      → GateRest s at (oneGate (net .levels) (namesIn s h) (gatesOf net)) net r
-  unfolding left-field space
-  whole-line r rest =
-      record { reads = rest .reads ∙ gate-line (net .levels) (namesIn s h) (gatesOf net) (drop at s) at; more = rest .more }
-
-  pub left-back : (number place : ℕ) → step ≡ Back number place
-      → GateRest s at (oneGate (net .levels) (namesIn s h) (gatesOf net)) net (record { step = Back number place; net = net })
-  left-back number place e =
-      whole-line (record { step = Back number place; net = net })
-      (gate-back s at net itself left-field (fromRight (net .levels) (namesIn s h) (gatesOf net)) step left-reads number place (Back number place) e refl)
-
-  pub left-on : (value next : ℕ) (r : GatesRead) → step ≡ On value next
-      → GateRest s next (fromRight (net .levels) (namesIn s h) (gatesOf net) value) net r
-      → GateRest s at (oneGate (net .levels) (namesIn s h) (gatesOf net)) net r
-  left-on value next r e onward =
-      whole-line r (gate-on s at net itself left-field (fromRight (net .levels) (namesIn s h) (gatesOf net)) step left-reads value next r e onward)
-
--- ---- room for one more gate
-
-pub record Room (net : Net) : Type 0 where
-  pub few : net .gates < mostGates
-  pub digits : (net .gates + 1) * (net .levels * net .levels) ≤ mostDigits
-  pub levels : net .levels ≤ mostLevels
-
-pub room-told : (s : List ℕ) (h : Header) (net : Net) → GateRoom s h net → Room net
-room-told s h net given =
-    let size = sized (h .levels) (h .inputs) (given .held .fits) in
-    record {
-      few = omega (arith, given .room, size .inputs-most);
-      digits = rw (given .levels) (gate-room (h .levels) (h .inputs) (given .held .fits) (net .gates) (omega (arith, given .room)));
-      levels = rw (given .levels) (size .levels-most);
-    }
-
--- every reference of a line is far below 256
-pub reference-small : (s : List ℕ) (h : Header) (net : Net) (value : ℕ) → GateRoom s h net → value < length (namesIn s h) + net .gates → value < 255
-reference-small s h net value given below =
-    let size = sized (h .levels) (h .inputs) (given .held .fits) in
-    omega (arith, below, names-count s h, given .room, size .inputs-most)
-
-pub references-few : (s : List ℕ) (h : Header) (net : Net) → GateRoom s h net → length (namesIn s h) + net .gates ≤ 255
-references-few s h net given =
-    let size = sized (h .levels) (h .inputs) (given .held .fits) in
-    omega (arith, names-count s h, given .room, size .inputs-most)
+  pub left-on : (last : List Bool) (value next : ℕ) (r : Line) → step ≡ On value next → RightLine s next m keys lens count value after last r
+      → WholeLine s at m keys lens count used last r
+  unfolding gateLine rightOnly digitsOnly one
+  left-on last value next r e line names keyed gates all marked =
+      let rest = line names keyed gates all (reference .marks (usedBy gates) value next marked e) in
+      record {
+        reads = reference-on names keyed gates all (usedBy gates) marked (rightOnly m names gates) value next r e (rest .reads);
+        held = rest .held;
+      }

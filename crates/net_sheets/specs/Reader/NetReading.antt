@@ -1,12 +1,6 @@
 -- The result of reading a net sheet, in the definitions.
 -- Assumes nothing.
-use Prim.Native.Nat.{ℕ, _-_, _≤_, _<_}
-use mathlib.Core.Path.{_≡_, refl, sym, ap, _∙_}
-use mathlib.Core.Bool.{true, false}
-use mathlib.Core.List.{List, []}
-use native.Mathlib.Omega.{arith}
-use lib.ListN.{length, drop}
-use Rattle.rules.specs.Limits.{mostInputs}
+use Rattle.laws.specs.Prelude.{ℕ, _<_, _≤_, _+_, _-_, _≡_, _∙_, sym, ap, refl, true, false, List, [], arith, length, drop}
 use Rattle.rules.specs.Text.{space, newline, text}
 use Rattle.rules.specs.Sheets.Fields.{Reader, then, _>>=_, give, theWord, closed}
 use Rattle.rules.specs.Sheets.Sheets as sheets
@@ -14,7 +8,8 @@ use Rattle.rules.specs.Sheets.Sheets.{headerLines, gateLines, earlierUsed, allU
 use Rattle.rules.specs.Sheets.Reading.{answered, readNet}
 use Rattle.laws.specs.Numbers.Sizes.{sized}
 use Rattle.nets.specs.Forms.{headerOf, namesIn, gatesOf, netIn}
-use Rattle.nets.specs.Room.{mostGates}
+use Rattle.nets.specs.Room.{mostWires}
+use Rattle.nets.specs.Sound.{gates-length}
 use Rattle.nets.specs.declared.forms.Header.{Header}
 use Rattle.nets.specs.declared.forms.Net.{Net}
 use Rattle.fields.specs.Chained.{Answers, answers-back, answers-on, answers-more, answers-ended}
@@ -28,6 +23,7 @@ use Rattle.answers.specs.declared.outcome.Outcome.the-variants.{Accepted, Refus
 use Rattle.fields.specs.declared.steps.Step.{Step}
 use Rattle.fields.specs.declared.steps.Step.the-variants.{On, Back}
 use Rattle.net_sheets.specs.Reader.GateLines.{NetWhole, GatesAll}
+use Rattle.net_sheets.specs.Reader.References.{markedOn, earlier-marked}
 use Rattle.net_sheets.specs.declared.reader.gates.GatesRead.{GatesRead}
 use Rattle.net_sheets.specs.declared.reader.net.NetRead.{NetRead}
 
@@ -85,7 +81,8 @@ module _ (s : List ℕ) (at : ℕ) (h : Header) (held : HeaderHeld s h) (r : Gat
   module _ (value next : ℕ) (e : r .step ≡ On value next) where
     -- the checks after the gate lines, with this outcome
     after-lines : (o : Outcome)
-        → Answers s next (closed >>= λ _. lastJudged (headerOf s h) (gatesOf (r .net))) (netIn s h (r .net)) (NetHeld s (record { outcome = o; header = h; net = r .net })) o
+        → Answers s next (closed >>= λ _. lastJudged (headerOf s h) (gatesOf (r .net))) (netIn s h (r .net))
+        (NetHeld s (record { outcome = o; header = h; net = r .net })) o
         → NetRest s at (fromGates (headerOf s h)) (record { outcome = o; header = h; net = r .net })
     unfolding fromGates headerOf lines
     after-lines o after = answers-on (λ _. gatesOf (r .net)) lines _ s at (r .step) (gates .reads) _ _ value next o e after
@@ -93,29 +90,33 @@ module _ (s : List ℕ) (at : ℕ) (h : Header) (held : HeaderHeld s h) (r : Gat
     pub gates-over : next < length s → NetRest s at (fromGates (headerOf s h)) (record { outcome = Refused 1 next; header = h; net = r .net })
     gates-over more = after-lines (Refused 1 next) (answers-more _ s next _ _ more)
 
-    -- the net's gates can be searched
-    pub gates-room : (r .net .gates ≤ mostGates) × (r .net .inputs ≤ mostInputs)
+    -- the net's inputs and gates are few
+    pub gates-room : r .net .inputs + r .net .gates ≤ mostWires
     gates-room =
         let size = sized (h .levels) (h .inputs) (held .fits) in
         let whole = gates .whole value next e in
-        (omega (arith, size .inputs-most, whole .count), omega (arith, size .inputs-most, whole .inputs))
+        omega (arith, size .inputs-most, whole .count, whole .inputs)
 
     module _ (done : length s ≤ next) where
-      -- the net's inputs are the header's
-      of-header : earlierUsed (r .net .inputs) (gatesOf (r .net)) ≡ earlierUsed (headerOf s h .inputs) (gatesOf (r .net))
+      -- the net's inputs are the header's, and its gates are marked
+      of-header : markedOn (r .used) (r .net .inputs) (r .net .gates) 0 ≡ earlierUsed (headerOf s h .inputs) (gatesOf (r .net))
       unfolding headerOf
-      of-header = ap (λ n. earlierUsed n (gatesOf (r .net))) (gates .whole value next e .inputs)
+      of-header =
+          ap (λ k. markedOn (r .used) (r .net .inputs) k 0) (sym (gates-length (r .net)))
+          ∙ (earlier-marked (r .used) (r .net .inputs) (gatesOf (r .net)) (gates .marked value next e) (rw (gates-length (r .net)) gates-room)
+          ∙ ap (λ n. earlierUsed n (gatesOf (r .net))) (gates .whole value next e .inputs))
 
-      pub gates-unused : earlierUsed (r .net .inputs) (gatesOf (r .net)) ≡ false
+      pub gates-unused : markedOn (r .used) (r .net .inputs) (r .net .gates) 0 ≡ false
           → NetRest s at (fromGates (headerOf s h)) (record { outcome = Refused 26 next; header = h; net = r .net })
       gates-unused unused =
           after-lines (Refused 26 next) (answers-ended _ s next _ _ done (Refused 26 next) (last-unused s next _ _ _ (sym of-header ∙ unused)))
 
-      pub gates-closed : earlierUsed (r .net .inputs) (gatesOf (r .net)) ≡ true
+      pub gates-closed : markedOn (r .used) (r .net .inputs) (r .net .gates) 0 ≡ true
           → NetRest s at (fromGates (headerOf s h)) (record { outcome = Accepted; header = h; net = r .net })
       gates-closed used =
           after-lines Accepted
-          (answers-ended _ s next _ _ done Accepted (last-used s next _ _ _ (sym of-header ∙ used) (record { header = held; whole = gates .whole value next e })))
+          (answers-ended _ s next _ _ done Accepted
+          (last-used s next _ _ _ (sym of-header ∙ used) (record { header = held; whole = gates .whole value next e })))
 
 module _ (s : List ℕ) (at : ℕ) (h : Header) (step : Step) (reads : stepAs nothing s step ≡ headingLine (drop at s) at) where
   pub heading-back : (number place : ℕ) (net : Net) → step ≡ Back number place

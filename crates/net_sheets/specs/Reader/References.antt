@@ -1,46 +1,51 @@
 -- References, by name and by number.
 -- Assumes nothing.
-use Prim.Native.Nat.{ℕ, _+_, _-_, _≤_, _<_}
-use mathlib.Core.Path.{_≡_, refl, sym, ap, _∙_}
-use mathlib.Core.Bool.{Bool, true, false, not}
-use mathlib.Core.Option.{Option, none, some}
-use mathlib.Core.List.{List, [], _∷_, map}
-use native.Mathlib.Nat.{zero-add, sub-zero}
-use native.Mathlib.Omega.{arith}
-use borrow.Author.Tests.{lt-ltb, le-ltb, eq-eqb, ne-eqb}
-use lib.ListN.{length, drop, getD}
-use lib.Dec.{eqb}
-use Rattle.rules.specs.Lists.{range, all, any, same}
-use Rattle.rules.specs.Text.{decimal}
+use Rattle.laws.specs.Prelude.{ℕ, _<_, _≤_, _+_, _-_, suc, zero, _≡_, _∙_, sym, ap, refl, true, false, Bool, not, _||_, List, [], _∷_, _++_, map, sub-zero}
+use Rattle.laws.specs.Prelude.{arith, eqb, length, getD, drop, set, length-set, replicate, getD-replicate, getD-set-same, getD-set-other, eq-eqb, eqb-true}
+use Rattle.laws.specs.Prelude.{ne-eqb, eqb-false}
+use mathlib.Core.Option.{Option, none}
+use Rattle.rules.specs.Limits.{mostNameBytes}
+use Rattle.rules.specs.Lists.{range, all, any, find, same}
+use Rattle.rules.specs.Text.{spaceByte}
 use Rattle.rules.specs.Sheets.Fields.{Judged, good, bad, judged, field, run}
-use Rattle.laws.specs.Lists.Finds.{found-is, first-in-range}
-use Rattle.laws.specs.Lists.Ranges.{range-next, range-none, map-range-at}
-use Rattle.fields.specs.Steps.{stepAs, itself, optionOf}
-use Rattle.fields.specs.Taken.{field-on, field-judged-good}
+use Rattle.laws.specs.Lists.Finds.{First, found, missing, first-in-range}
+use Rattle.laws.specs.Lists.Ranges.{range-next, range-none}
+use Rattle.laws.specs.Lists.Same.{same-true}
+use Rattle.laws.specs.Lists.Tests.{any-cons}
+use Rattle.fields.specs.Judging.{field-judged}
+use Rattle.fields.specs.Steps.{judgedAs, judgedField, judgedFieldIn, stepAs, itself, optionOf}
+use Rattle.fields.specs.Taken.{field-on}
 use Rattle.fields.specs.declared.steps.Step.{Step}
 use Rattle.fields.specs.declared.steps.Step.the-variants.{On}
+use Rattle.fields.specs.declared.steps.Verdict.{Verdict}
 use Rattle.fields.specs.declared.steps.Found.{Found}
 use Rattle.fields.specs.declared.steps.Found.the-variants.{At, Nowhere}
-use Rattle.rules.specs.Sheets.Sheets.{referenceText, referenceOf, referenceField, usedBy, earlierUsed}
-use Rattle.nets.specs.Forms.{nameIn, gateOf, gatesOf, namesIn, names-count, headerOf}
-use Rattle.nets.specs.Sound.{gates-length}
-use Rattle.nets.specs.declared.forms.Header.{Header}
+use Rattle.rules.specs.Sheets.Sheets.{Gate, referenceText, referenceOf, referenceField, usedBy, earlierUsed}
+use Rattle.nets.specs.Forms.{gateOf}
+use Rattle.nets.specs.Room.{mostWires}
 use Rattle.nets.specs.declared.forms.Net.{Net}
+use Rattle.net_sheets.specs.Reader.Keys.{Keyed}
 
 -- ---- what a field refers to
 
-module _ (s : List ℕ) (h : Header) (w : List ℕ) (r : ℕ) where
-  pub refers-input : r < h .inputs → same w (nameIn s h r) ≡ same w (referenceText (namesIn s h) r)
-  unfolding referenceText headerOf
-  refers-input below =
-      sym
-      (ap (same w)
-      (rw (names-count s h, lt-ltb r (h .inputs) below, referenceText)
-      (map-range-at (nameIn s h) 0 (h .inputs) r [] below ∙ ap (nameIn s h) (zero-add r))))
+-- what w refers to, of the first `count` inputs and gates
+pub record Referred (keys lens : List ℕ) (count : ℕ) (w : List ℕ) (r : Found) : Type 0 where
+  pub finds : (names : List (List ℕ)) → Keyed names keys lens count → optionOf r ≡ find (λ k. same w (referenceText names k)) (range 0 count)
+  pub below : (k : ℕ) → r ≡ At k → k < count
 
-  pub refers-gate : h .inputs ≤ r → same w (decimal (r + 1 - h .inputs)) ≡ same w (referenceText (namesIn s h) r)
-  unfolding referenceText headerOf
-  refers-gate above = sym (ap (same w) (rw (names-count s h, le-ltb r (h .inputs) above, referenceText) (ap (λ k. decimal (r + 1 - k)) (names-count s h))))
+-- a long field refers to nothing
+pub long-refers : (keys lens : List ℕ) (count : ℕ) (w : List ℕ) → mostNameBytes < length w → Referred keys lens count w Nowhere
+long-refers keys lens count w long =
+    record {
+      finds = λ names keyed.
+          nothing-found (first-in-range _ 0 count)
+          (λ k p. omega (arith, ap length (same-true w (referenceText names k) (p .2)), keyed .each k (omega arith) .short));
+      below = λ k e. absurd (let z : _≡_ {A = ℕ} 0 1 = cc in omega arith);
+    }
+  where
+    nothing-found : {P : ℕ → Type 0} {R : ℕ → ℕ → Type 0} {o : Option ℕ} → First P R o → ((k : ℕ) → P k → ⊥) → none ≡ o
+    nothing-found (found g p least) never = absurd (never g p)
+    nothing-found (missing empty) never = refl
 
 -- ---- what is used
 
@@ -74,92 +79,155 @@ module _ (net : Net) (r k : ℕ) where
   unfolding any usedBy
   used-none h = rw (range-none k (net .gates) h)
 
+-- ---- what is marked
+
+-- `used` marks exactly the references of a list
+pub record Marked (used : List Bool) (list : List ℕ) : Type 0 where
+  pub room : length used ≡ mostWires
+  pub marks : (r : ℕ) → r < mostWires → getD used r false ≡ any (eqb r) list
+
+pub none-marked : Marked (replicate mostWires false) []
+unfolding any
+none-marked = record { room = refl; marks = λ r h. getD-replicate mostWires r false false h }
+
+-- one more
+more-marked : (used : List Bool) (list : List ℕ) (r : ℕ) → r < mostWires → Marked used list → Marked (set used r true) (r ∷ list)
+more-marked used list r small marked =
+    record { room = length-set used r true ∙ marked .room; marks = λ k h. rw any-cons (go k h (eqb k r) refl) }
+  where
+    go : (k : ℕ) → k < mostWires → (t : Bool) → eqb k r ≡ t → getD (set used r true) k false ≡ (eqb k r || any (eqb k) list)
+    go k h true q = rw (q, eqb-true k r q) (getD-set-same used r true false (rw (marked .room) small))
+    go k h false q = rw q (getD-set-other used r k true false (eqb-false k r q) ∙ marked .marks k h)
+
+-- the order does not matter
+orders : (a b c d e : Bool) → (a || (b || (c || (d || e)))) ≡ (c || (d || (a || (b || e))))
+orders false false c d e = refl
+orders true b true d e = refl
+orders true b false true e = refl
+orders true b false false e = refl
+orders false true true d e = refl
+orders false true false true e = refl
+orders false true false false e = refl
+
+any-none : (r : ℕ) → any (eqb r) [] ≡ false
+unfolding any
+any-none r = refl
+
+used-last : (r : ℕ) (g : Gate) (gates : List Gate) → any (eqb r) (g .right ∷ g .left ∷ usedBy gates) ≡ any (eqb r) (usedBy (gates ++ (g ∷ [])))
+unfolding usedBy
+used-last r g [] = simp (any-cons, any-none) (orders (eqb r (g .right)) false (eqb r (g .left)) false false)
+used-last r g (x ∷ gates) =
+    simp any-cons
+    (orders (eqb r (g .right)) (eqb r (g .left)) (eqb r (x .left)) (eqb r (x .right)) (any (eqb r) (usedBy gates))
+    ∙ ap (λ t. eqb r (x .left) || (eqb r (x .right) || t)) (simp any-cons at (used-last r g gates)))
+
+pub gate-marked : (used : List Bool) (g : Gate) (gates : List Gate) → Marked used (g .right ∷ g .left ∷ usedBy gates) → Marked used (usedBy (gates ++ (g ∷ [])))
+gate-marked used g gates marked = record { room = marked .room; marks = λ r h. marked .marks r h ∙ used-last r g gates }
+
 -- ---- earlier gates
 
--- whether the gates from k on are used, except the last
-unfoldable pub usedOn : Net → ℕ → Bool
-usedOn net k = all (λ j. any (eqb (net .inputs + j)) (usedBy (gatesOf net))) (range k (net .gates - 1 - k))
+-- whether the gates from k on are marked, except the last
+unfoldable pub markedOn : List Bool → ℕ → ℕ → ℕ → Bool
+markedOn used inputs gates k = all (λ j. getD used (inputs + j) false) (range k (gates - 1 - k))
 
--- the check from gate 0 on covers all of them
-pub used-from-first : (net : Net) → earlierUsed (net .inputs) (gatesOf net) ≡ usedOn net 0
-unfolding earlierUsed usedOn
-used-from-first net = rw (gates-length net, sub-zero)
+module _ (used : List Bool) (inputs gates k : ℕ) where
+  module _ (more : k < gates - 1) where
+    pub unmarked-here : getD used (inputs + k) false ≡ false → markedOn used inputs gates k ≡ false
+    unfolding markedOn all
+    unmarked-here e = rw (range-next k (gates - 1) more, e, all)
 
-module _ (net : Net) (k : ℕ) where
-  module _ (more : k < net .gates - 1) where
-    pub unused-here : any (eqb (net .inputs + k)) (usedBy (gatesOf net)) ≡ false → usedOn net k ≡ false
-    unfolding usedOn all
-    unused-here e = rw (range-next k (net .gates - 1) more, e, all)
+    pub marked-here : getD used (inputs + k) false ≡ true → markedOn used inputs gates k ≡ markedOn used inputs gates (k + 1)
+    unfolding markedOn all
+    marked-here e = rw (range-next k (gates - 1) more, e, all)
 
-    pub used-here : any (eqb (net .inputs + k)) (usedBy (gatesOf net)) ≡ true → usedOn net k ≡ usedOn net (k + 1)
-    unfolding usedOn all
-    used-here e = rw (range-next k (net .gates - 1) more, e, all)
+  pub marked-all : gates - 1 ≤ k → markedOn used inputs gates k ≡ true
+  unfolding markedOn all
+  marked-all end = rw (range-none k (gates - 1) end)
 
-  pub used-all : net .gates - 1 ≤ k → usedOn net k ≡ true
-  unfolding usedOn all
-  used-all end = rw (range-none k (net .gates - 1) end)
+all-range-same : (t u : ℕ → Bool) (from count : ℕ) → ((k : ℕ) → k < from + count → t k ≡ u k) → all t (range from count) ≡ all u (range from count)
+unfolding all range
+all-range-same t u from zero h = refl
+all-range-same t u from (suc count) h =
+    rw (h from (omega arith))
+    (ap (λ rest. elim (u from) [ true ↦ rest | false ↦ false ]) (all-range-same t u (suc from) count (λ k l. h k (omega arith))))
+
+pub earlier-marked : (used : List Bool) (inputs : ℕ) (gates : List Gate) → Marked used (usedBy gates) → inputs + length gates ≤ mostWires
+    → markedOn used inputs (length gates) 0 ≡ earlierUsed inputs gates
+unfolding markedOn earlierUsed
+earlier-marked used inputs gates marked room =
+    rw sub-zero (all-range-same _ _ 0 (length gates - 1) (λ k h. marked .marks (inputs + k) (omega arith)))
 
 -- ---- a reference, judged
 
-pub judged-none : (names : List (List ℕ)) (earlier taken : ℕ) (used w : List ℕ) (found : Found)
-    → optionOf found ≡ referenceOf names earlier w → found ≡ Nowhere → bad 7 ≡ referenceField names earlier (taken ∷ used) w
-unfolding referenceField
-judged-none names earlier taken used w found e q = rw (sym e ∙ ap optionOf q, referenceField)
+-- the verdict r on w, with these marks before and after it
+pub record ReferenceJudged (keys lens : List ℕ) (count : ℕ) (used : List Bool) (w : List ℕ) (after : List Bool) (r : Judged ℕ) : Type 0 where
+  pub judges : (names : List (List ℕ)) (earlier : ℕ) (list : List ℕ) → length names + earlier ≡ count → Keyed names keys lens count → Marked used list
+      → r ≡ referenceField names earlier list w
+  pub marks : (list : List ℕ) (value : ℕ) → Marked used list → r ≡ good value → Marked after (value ∷ list)
+  pub below : (value : ℕ) → r ≡ good value → value < mostWires
 
-module _ (names : List (List ℕ)) (earlier taken : ℕ) (used w : List ℕ) (r : ℕ) (found : Found)
-    (e : optionOf found ≡ referenceOf names earlier w) (q : found ≡ At r) where
-  refers-to : referenceOf names earlier w ≡ some r
-  refers-to = sym e ∙ ap optionOf q
+never-good : {A : Type 0} (number value : ℕ) → _≡_ {A = Judged ℕ} (bad number) (good value) → A
+never-good number value e = let z : _≡_ {A = ℕ} 0 1 = cc in absurd (omega arith)
 
-  pub judged-taken : r ≡ taken → bad 8 ≡ referenceField names earlier (taken ∷ used) w
-  unfolding referenceField any
-  judged-taken p = rw (refers-to, referenceField) (rw (eq-eqb r taken p, any) refl)
-
-  module _ (free : r ≡ taken → ⊥) where
-    pub judged-used : any (eqb r) used ≡ true → bad 8 ≡ referenceField names earlier (taken ∷ used) w
-    unfolding referenceField any
-    judged-used p = rw (refers-to, referenceField) (rw (ne-eqb r taken free, any) (rw p refl))
-
-    pub judged-free : any (eqb r) used ≡ false → good r ≡ referenceField names earlier (taken ∷ used) w
-    unfolding referenceField any
-    judged-free p = rw (refers-to, referenceField) (rw (ne-eqb r taken free, any) (rw p refl))
-
--- ---- what a reference is
-
-module _ (names : List (List ℕ)) (earlier : ℕ) (used w : List ℕ) where
-  told : (value : ℕ) (o : Option ℕ) → referenceOf names earlier w ≡ o
-      → _≡_ {A = Judged ℕ} (elim o [ none ↦ bad 7 | some r ↦ judged (not (any (eqb r) used)) r 8 ]) (good value) → value < length names + earlier
+module _ (keys lens : List ℕ) (count : ℕ) (w : List ℕ) (found : Found) (refers : Referred keys lens count w found) where
+  is-of : (names : List (List ℕ)) (earlier : ℕ) → length names + earlier ≡ count → Keyed names keys lens count → referenceOf names earlier w ≡ optionOf found
   unfolding referenceOf
-  told value none e q = let z : _≡_ {A = ℕ} 0 1 = cc in absurd (omega arith)
-  told value (some r) e q =
-      let found = found-is (first-in-range (λ k. same w (referenceText names k)) 0 (length names + earlier)) r e in
-      omega (arith, found .1, field-judged-good (not (any (eqb r) used)) r value 8 q .1)
+  is-of names earlier all keyed = rw all (sym (refers .finds names keyed))
 
-  reference-told : (value : ℕ) → referenceField names earlier used w ≡ good value → value < length names + earlier
+  pub judged-none : (used : List Bool) → found ≡ Nowhere → ReferenceJudged keys lens count used w used (bad 7)
   unfolding referenceField
-  reference-told value e = told value (referenceOf names earlier w) refl e
+  judged-none used q =
+      record {
+        judges = λ names earlier list all keyed marked. rw (is-of names earlier all keyed ∙ ap optionOf q, referenceField);
+        marks = λ list value marked. never-good 7 value;
+        below = λ value. never-good 7 value;
+      }
 
-  module _ (nowhere : ℕ) (beyond : length names + earlier ≤ nowhere) where
-    not-there : (o : Option ℕ) → referenceOf names earlier w ≡ o
-        → _≡_ {A = Judged ℕ} (elim o [ none ↦ bad 7 | some r ↦ judged (not (any (eqb r) (nowhere ∷ used))) r 8 ])
-        (elim o [ none ↦ bad 7 | some r ↦ judged (not (any (eqb r) used)) r 8 ])
-    unfolding referenceOf any
-    not-there none e = refl
-    not-there (some r) e =
-        let found = found-is (first-in-range (λ k. same w (referenceText names k)) 0 (length names + earlier)) r e in
-        rw (ne-eqb r nowhere (λ p. omega (arith, found .1, p)), any) refl
+  module _ (few : count ≤ mostWires) (r : ℕ) (q : found ≡ At r) where
+    pub refers-below : r < mostWires
+    refers-below = omega (arith, refers .below r q)
 
-    spare-at : referenceField names earlier (nowhere ∷ used) w ≡ referenceField names earlier used w
-    unfolding referenceField
-    spare-at = not-there (referenceOf names earlier w) refl
+    module _ (used : List Bool) where
+      judged-marked : (names : List (List ℕ)) (earlier : ℕ) (list : List ℕ) → length names + earlier ≡ count → Keyed names keys lens count → Marked used list
+          → referenceField names earlier list w ≡ judged (not (getD used r false)) r 8
+      unfolding referenceField
+      judged-marked names earlier list all keyed marked =
+          rw (is-of names earlier all keyed ∙ ap optionOf q, referenceField) (ap (λ t. judged (not t) r 8) (sym (marked .marks r refers-below)))
 
--- a number that no field refers to may count as used or not, with the same result
-pub spare : (names : List (List ℕ)) (earlier : ℕ) (used : List ℕ) (nowhere : ℕ) → length names + earlier ≤ nowhere
-    → referenceField names earlier (nowhere ∷ used) ≡ referenceField names earlier used
-spare names earlier used nowhere beyond = λ i w. spare-at names earlier used w nowhere beyond i
+      pub judged-used : getD used r false ≡ true → ReferenceJudged keys lens count used w used (bad 8)
+      judged-used p =
+          record {
+            judges = λ names earlier list all keyed marked. rw (judged-marked names earlier list all keyed marked, p) refl;
+            marks = λ list value marked. never-good 8 value;
+            below = λ value. never-good 8 value;
+          }
 
-pub net-reference-below : (s : List ℕ) (step : Step) (at : ℕ) (names : List (List ℕ)) (earlier : ℕ) (used : List ℕ) (due value next : ℕ)
-    → stepAs itself s step ≡ field (referenceField names earlier used) due (drop at s) at → step ≡ On value next → value < length names + earlier
-net-reference-below s step at names earlier used due value next reads e =
-    reference-told names earlier used (run (drop at s)) value
-    (field-on s step at value next e itself (referenceField names earlier used) due reads .judged)
+      pub judged-free : getD used r false ≡ false → ReferenceJudged keys lens count used w (set used r true) (good r)
+      judged-free p =
+          record {
+            judges = λ names earlier list all keyed marked. rw (judged-marked names earlier list all keyed marked, p) refl;
+            marks = λ list value marked g. let same-value : r ≡ value = cc in rw (← same-value) (more-marked used list r refers-below marked);
+            below = λ value g. let same-value : r ≡ value = cc in rw (← same-value) refers-below;
+          }
+
+-- reading a reference field at `at`
+pub record ReferenceRead (s : List ℕ) (at : ℕ) (keys lens : List ℕ) (count : ℕ) (used after : List Bool) (r : Step) : Type 0 where
+  pub reads : (names : List (List ℕ)) (earlier : ℕ) (list : List ℕ) → length names + earlier ≡ count → Keyed names keys lens count → Marked used list
+      → stepAs itself s r ≡ field (referenceField names earlier list) spaceByte (drop at s) at
+  pub marks : (list : List ℕ) (value next : ℕ) → Marked used list → r ≡ On value next → Marked after (value ∷ list)
+  pub below : (value next : ℕ) → r ≡ On value next → value < mostWires
+
+pub reference-read : (s : List ℕ) (at : ℕ) (keys lens : List ℕ) (count : ℕ) (used after : List Bool) (w : List ℕ) (v : Verdict) (r : Step)
+    → w ≡ run (drop at s) → ReferenceJudged keys lens count used w after (judgedAs itself v) → stepAs itself s r ≡ judgedField v spaceByte s at
+    → ReferenceRead s at keys lens count used after r
+unfolding judgedFieldIn
+reference-read s at keys lens count used after w v r is judged reads =
+    record {
+      reads = λ names earlier list all keyed marked.
+          field-judged itself (referenceField names earlier list) spaceByte s at w v r is (judged .judges names earlier list all keyed marked) reads;
+      marks = λ list value next marked e. judged .marks list value marked (told value next e);
+      below = λ value next e. judged .below value (told value next e);
+    }
+  where
+    told : (value next : ℕ) → r ≡ On value next → judgedAs itself v ≡ good value
+    told value next e = field-on s r at value next e itself (λ _. judgedAs itself v) spaceByte reads .judged

@@ -1,9 +1,6 @@
 -- Lines field by field: every field except the last is followed by a space.
 -- Assumes nothing.
-use Prim.Native.Nat.{ℕ, suc, _+_, _-_, _≤_, _<_}
-use mathlib.Core.Path.{_≡_, refl, sym, ap, _∙_}
-use mathlib.Core.List.{List, [], _∷_, _++_, map, append-assoc}
-use native.Mathlib.Nat.{zero-add, sub-zero}
+use Rattle.laws.specs.Prelude.{ℕ, _<_, _≤_, _+_, _-_, suc, _≡_, _∙_, sym, ap, refl, List, [], _∷_, _++_, map, append-assoc, zero-add, sub-zero}
 use Rattle.rules.specs.Lists.{range}
 use Rattle.rules.specs.Text.{space, newline}
 use Rattle.rules.specs.Sheets.Printed.{line}

@@ -1,9 +1,6 @@
 -- A header's names: what printing them requires, and the line printed.
 -- Assumes nothing.
-use Prim.Native.Nat.{ℕ, suc, _-_, _≤_, _<_}
-use mathlib.Core.Path.{_≡_, ap, _∙_}
-use mathlib.Core.List.{List, [], _∷_, _++_, map}
-use native.Mathlib.Omega.{arith}
+use Rattle.laws.specs.Prelude.{ℕ, _<_, _≤_, _-_, suc, _≡_, _∙_, ap, List, [], _∷_, _++_, map, arith}
 use Rattle.rules.specs.Lists.{range}
 use Rattle.rules.specs.Limits.{mostInputs}
 use Rattle.rules.specs.Text.{newline}

@@ -1,14 +1,8 @@
 -- Text written into a buffer at a place, and the rest of a text while its parts are written one after the other.
 -- Assumes nothing.
-use Prim.Native.Nat.{ℕ, _+_, _≤_, _<_}
-use mathlib.Core.Path.{_≡_, refl, sym, ap, subst, _∙_}
-use mathlib.Core.List.{List, [], _∷_, _++_}
-use native.Mathlib.Nat.{zero-add, add-zero}
-use native.Mathlib.Numerals.{add-one}
-use native.Mathlib.Omega.{arith}
+use Rattle.laws.specs.Prelude.{ℕ, _<_, _≤_, _+_, _≡_, _∙_, sym, ap, refl, subst, List, [], _∷_, _++_, zero-add, add-zero, add-one, arith, length, getD}
+use Rattle.laws.specs.Prelude.{drop, set, length-set, length-append, drop-of-length-le, drop-cons, sets, length-sets, sets-eq}
 use lib.ListN
-use lib.ListN.{length, getD, drop, set, length-append, length-set, drop-of-length-le}
-use lib.Seq.{drop-cons, sets, length-sets, sets-eq}
 use Rattle.rules.specs.Calls.Answers.{written}
 use Rattle.laws.specs.Lists.Pastes.{sets-append}
 

@@ -28,6 +28,7 @@ pub fn from_gates(s: &[u8], at: usize, header: Header) -> NetRead
     let read = gate_lines(s, at, header);
     let step = read.step;
     let net = read.net;
+    let used = read.used;
     match step {
         Step::Back { number, place } => NetRead {
             outcome: Outcome::Refused { number, place },
@@ -45,7 +46,7 @@ pub fn from_gates(s: &[u8], at: usize, header: Header) -> NetRead
                     net,
                 };
             }
-            if !earlier_used(net) {
+            if !earlier_used(&used, net.inputs, net.gates) {
                 return NetRead {
                     outcome: Outcome::Refused {
                         number: 26,

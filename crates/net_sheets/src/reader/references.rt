@@ -1,51 +1,42 @@
 // A field that refers to an input or to an earlier gate.
 ghost use mathlib.Core.Path.{_≡_};
-ghost use Prim.Native.Nat.{_+_, _≤_, _<_};
-ghost use lib.ListN.{drop};
+ghost use Prim.Native.Nat.{_+_, _≤_};
 ghost use lib.Dec.{eqb};
-ghost use mathlib.Core.List.{_∷_};
-ghost use Rattle.rules.specs.Lists.{any, same};
-ghost use Rattle.rules.specs.Sheets.Fields.{field};
-ghost use Rattle.rules.specs.Limits.{mostInputs};
-ghost use Rattle.rules.specs.Sheets.Sheets.{referenceText, referenceOf, referenceField, usedBy, earlierUsed};
-ghost use Rattle.rules.specs.Text.{spaceByte};
-ghost use Rattle.nets.specs.Forms.{gatesOf, namesIn};
-ghost use Rattle.nets.specs.Room.{mostGates};
-ghost use Rattle.fields.specs.Header.FirstLines.{HeaderHeld};
-ghost use Rattle.fields.specs.Steps.{judgedAs, stepAs, itself, optionOf};
+ghost use Rattle.rules.specs.Lists.{any};
+ghost use Rattle.rules.specs.Sheets.Sheets.{usedBy};
+ghost use Rattle.nets.specs.Forms.{gatesOf};
+ghost use Rattle.nets.specs.Room.{mostGates, mostWires};
+ghost use Rattle.fields.specs.Steps.{judgedAs, itself};
+ghost use Rattle.net_sheets.specs.Reader.References.{Referred, ReferenceJudged, ReferenceRead, markedOn};
 use fields::ends::after_field;
-use fields::numbers::is_decimal;
+use fields::header::keys::key_of;
+use fields::header::keys::same_key;
 use fields::runs::SPACE;
 use fields::runs::field_at;
-use fields::same::same_bytes;
 use fields::steps::Found;
 use fields::steps::Step;
 use fields::steps::Verdict;
-use nets::forms::Header;
+use nets::forms::MOST_WIRES;
 use nets::forms::Net;
-use nets::names::name_of;
+use radix::limits::MOST_NAME_BYTES;
 
-// Tests whether w refers to r.
-pub fn refers(s: &[u8], header: Header, w: &[u8], r: usize) -> bool
-    requires { ⌜ HeaderHeld (now s) header × (r < header .inputs + mostGates) ⌝ }
-    ensures { λ yes. ⌜ yes ≡ same (now (w .entry)) (referenceText (namesIn (now (s .entry)) header) r) ⌝ }
+// Returns what w refers to, of the first `count` inputs and gates.
+pub fn reference_of(
+    keys: &[u64; MOST_WIRES],
+    lens: &[u8; MOST_WIRES],
+    count: usize,
+    w: &[u8],
+) -> Found
+    requires { ⌜ count ≤ mostWires ⌝ }
+    ensures { λ r. ⌜ Referred (now (keys .entry)) (now (lens .entry)) count (now (w .entry)) r ⌝ }
 {
-    let inputs = header.inputs;
-    if r < inputs {
-        return same_bytes(w, name_of(s, header, r));
+    if MOST_NAME_BYTES < w.len() {
+        return Found::Nowhere;
     }
-    is_decimal(w, r + 1 - inputs)
-}
-
-// Returns what w refers to, with `earlier` gates before its line.
-pub fn reference_of(s: &[u8], header: Header, earlier: usize, w: &[u8]) -> Found
-    requires { ⌜ HeaderHeld (now s) header × (earlier ≤ mostGates) ⌝ }
-    ensures { λ r. ⌜ optionOf r ≡ referenceOf (namesIn (now (s .entry)) header) earlier (now (w .entry)) ⌝ }
-{
-    let end = header.inputs + earlier;
+    let key = key_of(w);
     let mut r: usize = 0;
-    while r < end {
-        if refers(s, header, w, r) {
+    while r < count {
+        if same_key(key, w.len(), keys[r], lens[r]) {
             return Found::At(r);
         }
         r += 1;
@@ -72,16 +63,14 @@ pub fn is_used(net: Net, r: usize) -> bool
     false
 }
 
-// Tests whether every gate except the last is used.
-pub fn earlier_used(net: Net) -> bool
-    requires { ⌜ (net .gates ≤ mostGates) × (net .inputs ≤ mostInputs) ⌝ }
-    ensures { λ yes. ⌜ yes ≡ earlierUsed (net .inputs) (gatesOf net) ⌝ }
+// Tests whether every gate except the last of `gates` is marked as used.
+pub fn earlier_used(used: &[bool; MOST_WIRES], inputs: usize, gates: usize) -> bool
+    requires { ⌜ inputs + gates ≤ mostWires ⌝ }
+    ensures { λ yes. ⌜ yes ≡ markedOn (now (used .entry)) inputs gates 0 ⌝ }
 {
-    let inputs = net.inputs;
-    let gates = net.gates;
     let mut k: usize = 0;
     while k + 1 < gates {
-        if !is_used(net, inputs + k) {
+        if !used[inputs + k] {
             return false;
         }
         k += 1;
@@ -89,31 +78,43 @@ pub fn earlier_used(net: Net) -> bool
     true
 }
 
-// Judges a reference after the gates of `net`; `taken` counts as used too.
-pub fn judge_reference(s: &[u8], header: Header, net: Net, taken: usize, w: &[u8]) -> Verdict
-    requires { ⌜ HeaderHeld (now s) header × (net .gates ≤ mostGates) ⌝ }
-    ensures { λ r. ⌜ judgedAs itself r ≡ referenceField (namesIn (now (s .entry)) header) (net .gates) (taken ∷ usedBy (gatesOf net)) (now (w .entry)) ⌝ }
+// Judges a reference to one of the first `count` inputs and gates, and marks a good one as used.
+pub fn judge_reference(
+    keys: &[u64; MOST_WIRES],
+    lens: &[u8; MOST_WIRES],
+    count: usize,
+    w: &[u8],
+    used: &mut [bool; MOST_WIRES],
+) -> Verdict
+    requires { ⌜ count ≤ mostWires ⌝ }
+    ensures { λ r. ⌜ ReferenceJudged (now (keys .entry)) (now (lens .entry)) count (now (used .entry)) (now (w .entry)) (now (used .exit))
+        (judgedAs itself r) ⌝ }
 {
-    match reference_of(s, header, net.gates, w) {
+    match reference_of(keys, lens, count, w) {
         Found::Nowhere => Verdict::Bad(7),
         Found::At(r) => {
-            if r == taken {
+            if used[r] {
                 return Verdict::Bad(8);
             }
-            if is_used(net, r) {
-                return Verdict::Bad(8);
-            }
+            used[r] = true;
             Verdict::Good(r)
         }
     }
 }
 
-// Reads a reference field.
-pub fn reference_field(s: &[u8], at: usize, header: Header, net: Net, taken: usize) -> Step
-    requires { ⌜ HeaderHeld (now s) header × (net .gates ≤ mostGates) ⌝ }
-    ensures { λ r. ⌜ stepAs itself (now (s .entry)) r ≡ field (referenceField (namesIn (now (s .entry)) header) (net .gates) (taken ∷ usedBy (gatesOf net))) spaceByte (drop at (now (s .entry))) at ⌝ }
+// Reads a reference field, and marks the reference as used.
+pub fn reference_field(
+    s: &[u8],
+    at: usize,
+    keys: &[u64; MOST_WIRES],
+    lens: &[u8; MOST_WIRES],
+    count: usize,
+    used: &mut [bool; MOST_WIRES],
+) -> Step
+    requires { ⌜ count ≤ mostWires ⌝ }
+    ensures { λ r. ⌜ ReferenceRead (now (s .entry)) at (now (keys .entry)) (now (lens .entry)) count (now (used .entry)) (now (used .exit)) r ⌝ }
 {
     let w = field_at(s, at);
-    let verdict = judge_reference(s, header, net, taken, w);
+    let verdict = judge_reference(keys, lens, count, w, used);
     after_field(s, at, w, verdict, SPACE)
 }

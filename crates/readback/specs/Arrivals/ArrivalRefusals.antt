@@ -1,10 +1,6 @@
 -- The numbers and places with which an arrival sheet is refused, and the bytes that decide it.
 -- Assumes nothing.
-use Prim.Native.Nat.{ℕ}
-use mathlib.Core.Path.{refl}
-use mathlib.Core.Bool.{_&&_}
-use mathlib.Core.List.{List, [], _∷_}
-use lib.Dec.{leb}
+use Rattle.laws.specs.Prelude.{ℕ, refl, _&&_, List, [], _∷_, leb}
 use Rattle.rules.specs.Lists.{any, same}
 use Rattle.rules.specs.Text.{valueOf, isDecimal}
 use Rattle.rules.specs.Limits.{mostTime}

@@ -1,14 +1,7 @@
 -- Arrival sheets: what was printed is read back, and what was accepted is exactly what would be printed and follows every rule.
 -- Assumes nothing.
-use Prim.Native.Nat.{ℕ, _≤_}
-use mathlib.Core.Path.{_≡_, refl, sym}
-use mathlib.Core.Logic.{_↔_}
-use mathlib.Core.Bool.{true, _&&_, and-eq-true-iff}
-use mathlib.Core.List.{List, [], _∷_, _++_, append-assoc, append-nil}
-use native.Mathlib.Omega.{arith}
-use lib.ListN.{length}
-use lib.Dec.{leb}
-use borrow.Author.Tests.{leb-true, le-leb}
+use Rattle.laws.specs.Prelude.{ℕ, _≤_, _≡_, sym, refl, _↔_, true, _&&_, and-eq-true-iff, List, [], _∷_, _++_, append-assoc, append-nil, arith, leb, length}
+use Rattle.laws.specs.Prelude.{le-leb, leb-true}
 use Rattle.rules.specs.Lists.{all, same}
 use Rattle.rules.specs.Text.{space, newline, text, decimal, valueOf, isDecimal}
 use Rattle.rules.specs.Limits.{mostTime}

@@ -1,15 +1,9 @@
 -- The lines of a sheet as document 01's lister counts them: where line k starts and how long it is. In an accepted net sheet the gate lines
 -- are the lines after the first four, each within the sheet with its line feed, and the sheet ends after the last.
 -- Assumes nothing.
-use Prim.Native.Nat.{ℕ, zero, suc, _+_, _-_, _≤_, _<_}
-use mathlib.Core.Path.{_≡_, refl, sym, ap, ap₂, _∙_, subst⁻¹}
-use mathlib.Core.Bool.{true}
-use mathlib.Core.List.{List, [], _∷_, _++_, append-assoc, append-nil}
-use native.Mathlib.Omega.{arith}
-use lib.ListN.{length, getD, take, drop, length-append, length-map}
-use lib.Seq.{length-take-le, split-at, append-snoc, take-at, drop-at, drop-drop}
-use lib.Dec.{eqb}
-use borrow.Author.Tests.{not-true}
+use Rattle.laws.specs.Prelude.{ℕ, _<_, _≤_, _+_, _-_, suc, zero, _≡_, _∙_, sym, ap, refl, ap₂, subst⁻¹, true, List, [], _∷_, _++_, append-assoc}
+use Rattle.laws.specs.Prelude.{append-nil, arith, eqb, length, getD, take, drop, length-append, length-map, length-take-le, take-at, append-snoc, drop-at}
+use Rattle.laws.specs.Prelude.{drop-drop, split-at, not-true}
 use Rattle.rules.specs.Lists.{all, concatMap}
 use Rattle.rules.specs.Text.{newline}
 use Rattle.rules.specs.Sheets.Sheets.{Gate, Net}

@@ -1,14 +1,7 @@
 -- Gate lines: each refers back, to references that no earlier line uses.
 -- Assumes nothing.
-use Prim.Native.Nat.{ℕ, zero, suc, _+_, _≤_, _<_}
-use mathlib.Core.Path.{_≡_, refl, sym, _∙_, ap}
-use mathlib.Core.Bool.{false}
-use mathlib.Core.Logic.{_↔_, _⊎_, inl, inr, ⊎-elim}
-use mathlib.Core.List.{List, [], _∷_, _++_, map, append-assoc, append-nil}
-use native.Mathlib.Omega.{arith}
-use lib.ListN.{length, length-append}
-use lib.Seq.{append-snoc}
-use lib.Dec.{eqb}
+use Rattle.laws.specs.Prelude.{ℕ, _<_, _≤_, _+_, suc, zero, _≡_, _∙_, sym, ap, refl, _↔_, ⊎-elim, _⊎_, inl, inr, false, List, [], _∷_, _++_, map}
+use Rattle.laws.specs.Prelude.{append-assoc, append-nil, arith, eqb, length, length-append, append-snoc}
 use Rattle.rules.specs.Lists.{any, concatMap}
 use Rattle.rules.specs.Text.{space, newline, digitByte}
 use Rattle.rules.specs.Sheets.Fields.{read, Reader, give}

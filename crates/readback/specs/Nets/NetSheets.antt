@@ -1,12 +1,7 @@
 -- Net sheets: what the reader of a net sheet spells. It reads to the sheet's end, then checks that earlier gates are used.
 -- Assumes nothing.
-use Prim.Native.Nat.{ℕ, _+_, _-_, _<_}
-use mathlib.Core.Path.{_≡_, refl, sym, _∙_, ap, fun-ext}
-use mathlib.Core.List.{List, [], _∷_, _++_, append-assoc, append-nil}
-use native.Mathlib.Nat.{add-zero}
-use native.Mathlib.Omega.{arith}
-use lib.ListN.{length}
-use lib.Dec.{eqb}
+use Rattle.laws.specs.Prelude.{ℕ, _<_, _+_, _-_, _≡_, _∙_, sym, ap, refl, fun-ext, List, [], _∷_, _++_, append-assoc, append-nil, add-zero, arith, eqb}
+use Rattle.laws.specs.Prelude.{length}
 use Rattle.rules.specs.Lists.{all, concatMap}
 use Rattle.rules.specs.Text.{space, newline, text}
 use Rattle.rules.specs.Sheets.Fields.{Read, read, turnedBack, Reader, then, _>>=_, give, isSeparator, field, theWord, closed}

@@ -1,13 +1,7 @@
 -- References: what a field of a gate line refers to. Different references are written differently.
 -- Assumes nothing.
-use Prim.Native.Nat.{ℕ, _+_, _-_, _≤_, _<_}
-use mathlib.Core.Path.{_≡_, refl, sym, _∙_, ap}
-use mathlib.Core.Bool.{Bool, true, false, not, false≢true}
-use mathlib.Core.List.{List, [], _∷_}
-use native.Mathlib.Omega.{arith}
-use lib.ListN.{length, getD}
-use lib.Dec.{eqb, ltb}
-use borrow.Author.Tests.{ltb-true, ltb-false, not-true}
+use Rattle.laws.specs.Prelude.{ℕ, _<_, _≤_, _+_, _-_, _≡_, _∙_, sym, ap, refl, true, false, Bool, not, false≢true, List, [], _∷_, arith, eqb, ltb, length}
+use Rattle.laws.specs.Prelude.{getD, not-true, ltb-true, ltb-false}
 use Rattle.rules.specs.Lists.{any, all}
 use Rattle.rules.specs.Text.{decimal, isDigit}
 use Rattle.rules.specs.Sheets.Fields.{good}

@@ -1,13 +1,7 @@
 -- "26, an earlier gate is never used, place the sheet's length, judged last in the net sheet" (document 02, K12): a net sheet is refused with 26
 -- exactly if it follows every other rule and some earlier gate is never used; the place is its length.
 -- Assumes nothing.
-use Prim.Native.Nat.{ℕ}
-use mathlib.Core.Path.{_≡_, refl, sym, _∙_, ap, subst}
-use mathlib.Core.Bool.{Bool, true, false}
-use mathlib.Core.Logic.{_↔_}
-use mathlib.Core.List.{List, [], _∷_, _++_, append-nil}
-use native.Mathlib.Omega.{arith}
-use lib.ListN.{length}
+use Rattle.laws.specs.Prelude.{ℕ, _≡_, _∙_, sym, ap, refl, subst, _↔_, true, false, Bool, List, [], _∷_, _++_, append-nil, arith, length}
 use Rattle.rules.specs.Lists.{any}
 use Rattle.rules.specs.Sheets.Fields.{Read, read, turnedBack, then, give}
 use Rattle.rules.specs.Sheets.Sheets.{Net, earlierUsed, allUsed}

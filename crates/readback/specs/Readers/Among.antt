@@ -1,12 +1,7 @@
 -- The numbers with which a reader refuses, for any list of numbers that contains 1: they are those of its fields' judges.
 -- Assumes nothing.
-use Prim.Native.Nat.{ℕ, suc, _+_}
+use Rattle.laws.specs.Prelude.{ℕ, _+_, suc, _≡_, sym, refl, subst, true, false, Bool, List, [], _∷_, arith, eqb}
 use Prim.Native.String.{String}
-use mathlib.Core.Path.{_≡_, refl, sym, subst}
-use mathlib.Core.Bool.{Bool, true, false}
-use mathlib.Core.List.{List, [], _∷_}
-use native.Mathlib.Omega.{arith}
-use lib.Dec.{eqb}
 use Rattle.rules.specs.Lists.{same}
 use Rattle.rules.specs.Text.{space, text}
 use Rattle.rules.specs.Sheets.Fields.{Read, read, turnedBack, Reader, then, _>>=_, give, Judged, good, bad, Judge, judged, run, past, separator}

@@ -1,12 +1,6 @@
 -- Readers that read several things of a kind, one after another, and append them to those read before.
 -- Assumes nothing.
-use Prim.Native.Nat.{ℕ, suc}
-use mathlib.Core.Path.{_≡_, refl, sym, ap, fun-ext}
-use mathlib.Core.Logic.{_↔_}
-use mathlib.Core.List.{List, [], _∷_, _++_, append-nil}
-use native.Mathlib.Omega.{arith}
-use lib.ListN.{length}
-use lib.Seq.{append-snoc}
+use Rattle.laws.specs.Prelude.{ℕ, suc, _≡_, sym, ap, refl, fun-ext, _↔_, List, [], _∷_, _++_, append-nil, arith, length, append-snoc}
 use Rattle.rules.specs.Sheets.Fields.{Read, read, turnedBack, Reader, then, _>>=_, give}
 use Rattle.readback.specs.Readers.Spells.{Spells, spells-give, spells-then, spells-as}
 

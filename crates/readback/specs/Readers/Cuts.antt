@@ -2,14 +2,8 @@
 -- 1 or, for a short text, the number that is judged last. A refusal before the end stays, however the text continues, once the text is so long
 -- that no field which might still become good reaches its end. Stated once for readers; the laws here combine such readers.
 -- Assumes nothing.
-use Prim.Native.Nat.{ℕ, suc, _+_, _≤_, _<_}
-use mathlib.Core.Path.{_≡_, refl, sym, _∙_, ap}
-use mathlib.Core.Bool.{Bool, true, false}
-use mathlib.Core.List.{List, [], _∷_, _++_, append-nil}
-use native.Mathlib.Nat.{le-trans, lt-of-not-le}
-use native.Mathlib.Omega.{arith}
-use lib.ListN.{length, length-append}
-use lib.Dec.{eqb}
+use Rattle.laws.specs.Prelude.{ℕ, _<_, _≤_, _+_, suc, _≡_, _∙_, sym, ap, refl, true, false, Bool, List, [], _∷_, _++_, append-nil, le-trans, lt-of-not-le}
+use Rattle.laws.specs.Prelude.{arith, eqb, length, length-append}
 use Rattle.rules.specs.Sheets.Fields.{Read, read, turnedBack, Reader, then, _>>=_, give, Judged, good, bad, Judge, run, past, separator, afterField}
 use Rattle.rules.specs.Sheets.Fields.{afterFieldIn, fieldOf, fieldOfIn, field, fieldIn, closed}
 use Rattle.laws.specs.Lists.Runs.{run-past, run-more, run-through}

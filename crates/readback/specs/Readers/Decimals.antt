@@ -1,12 +1,6 @@
 -- Decimal values and digits: they are words, and different numbers have different decimal values.
 -- Assumes nothing.
-use Prim.Native.Nat.{ℕ, _≤_, _<_}
-use mathlib.Core.Path.{_≡_, refl, sym, _∙_, ap}
-use mathlib.Core.Bool.{Bool, true}
-use mathlib.Core.List.{List, [], _∷_}
-use native.Mathlib.Omega.{arith}
-use lib.ListN.{length}
-use borrow.Author.Tests.{ne-eqb}
+use Rattle.laws.specs.Prelude.{ℕ, _<_, _≤_, _≡_, _∙_, sym, ap, refl, true, Bool, List, [], _∷_, arith, length, ne-eqb}
 use Rattle.rules.specs.Lists.{all}
 use Rattle.rules.specs.Text.{space, newline, isDigit, decimal, valueOf}
 use Rattle.rules.specs.Sheets.Fields.{isSeparator}

@@ -1,14 +1,8 @@
 -- Where a net sheet may end: after any gate line (`orEnd`), if every earlier gate has been used (`allUsed`). For these two readers: what they spell,
 -- which bytes decide, and the numbers with which they refuse.
 -- Assumes nothing.
-use Prim.Native.Nat.{ℕ, _<_}
-use mathlib.Core.Path.{_≡_, refl, sym, _∙_, ap}
-use mathlib.Core.Bool.{Bool, true, false}
-use mathlib.Core.Logic.{_⊎_, inl, inr, ⊎-elim}
-use mathlib.Core.List.{List, [], _∷_, _++_}
-use native.Mathlib.Nat.{add-zero}
-use native.Mathlib.Omega.{arith}
-use lib.ListN.{length, take, length-append}
+use Rattle.laws.specs.Prelude.{ℕ, _<_, _≡_, _∙_, sym, ap, refl, ⊎-elim, _⊎_, inl, inr, true, false, Bool, List, [], _∷_, _++_, add-zero, arith, length}
+use Rattle.laws.specs.Prelude.{take, length-append}
 use Rattle.rules.specs.Sheets.Fields.{Read, read, turnedBack, Reader}
 use Rattle.rules.specs.Sheets.Sheets.{Gate, orEnd, earlierUsed, allUsed}
 use Rattle.laws.specs.Lists.Distinct.{In}

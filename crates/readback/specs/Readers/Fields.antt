@@ -1,14 +1,8 @@
 -- One field of a sheet: the words that a judge accepts, each followed by the separator that is due, in either layout.
 -- Assumes nothing.
-use Prim.Native.Nat.{ℕ, suc, _+_}
+use Rattle.laws.specs.Prelude.{ℕ, _+_, suc, _≡_, _∙_, sym, ap, refl, ap₂, true, false, Bool, not, false≢true, List, [], _∷_, _++_, append-assoc, arith}
+use Rattle.laws.specs.Prelude.{eqb, length, eq-eqb, eqb-true, not-true}
 use Prim.Native.String.{String}
-use mathlib.Core.Path.{_≡_, refl, sym, _∙_, ap, ap₂}
-use mathlib.Core.Bool.{Bool, true, false, not, false≢true}
-use mathlib.Core.List.{List, [], _∷_, _++_, append-assoc}
-use native.Mathlib.Omega.{arith}
-use lib.ListN.{length}
-use lib.Dec.{eqb}
-use borrow.Author.Tests.{eqb-true, eq-eqb, not-true}
 use Rattle.rules.specs.Lists.{all, same}
 use Rattle.rules.specs.Text.{space, newline, text}
 use Rattle.rules.specs.Sheets.Fields.{Read, read, turnedBack, then, _>>=_, give, Judged, good, bad, Judge, judged, isSeparator, run, past, separator}

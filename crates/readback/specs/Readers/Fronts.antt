@@ -2,17 +2,9 @@
 -- refusal depends only on the bytes before its place, the byte there and the field there. Stated once for readers, with the
 -- place at which each stops; the laws here combine such readers.
 -- Assumes nothing.
-use Prim.Native.Nat.{ℕ, suc, _+_, _≤_}
-use mathlib.Core.Path.{_≡_, refl, sym, _∙_, ap, ap₂}
-use mathlib.Core.Bool.{Bool, true, false}
-use mathlib.Core.List.{List, [], _∷_, _++_, append-assoc}
-use native.Mathlib.Nat.{add-zero, zero-add, add-suc, suc-add}
-use native.Mathlib.Numerals.{add-one}
-use native.Mathlib.Omega.{arith}
-use lib.ListN.{length, take, drop, length-append}
-use lib.Seq.{append-snoc, drop-at, take-append-add}
-use lib.Dec.{eqb}
-use borrow.Author.Tests.{eqb-true, eq-eqb}
+use Rattle.laws.specs.Prelude.{ℕ, _≤_, _+_, suc, _≡_, _∙_, sym, ap, refl, ap₂, true, false, Bool, List, [], _∷_, _++_, append-assoc, zero-add, add-zero}
+use Rattle.laws.specs.Prelude.{suc-add, add-suc, add-one, arith, eqb, length, take, drop, length-append, append-snoc, drop-at, take-append-add, eq-eqb}
+use Rattle.laws.specs.Prelude.{eqb-true}
 use Rattle.rules.specs.Sheets.Fields.{Read, read, turnedBack, Reader, then, _>>=_, give, Judged, good, bad, Judge, isSeparator, run, past, separator}
 use Rattle.rules.specs.Sheets.Fields.{afterField, afterFieldIn, fieldOf, fieldOfIn, field, fieldIn, closed}
 use Rattle.laws.specs.Lists.Runs.{fieldEnd, at-separator, at-plain, run-past}

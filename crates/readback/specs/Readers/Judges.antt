@@ -1,16 +1,9 @@
 -- The judges of single fields, each with the words that it accepts: levels, inputs, names, a gate's digits, a row's levels and its ink.
 -- Assumes nothing.
-use Prim.Native.Nat.{ℕ, _+_, _-_, _*_, _≤_, _<_}
-use mathlib.Core.Path.{_≡_, refl, sym, _∙_, ap, ap₂}
-use mathlib.Core.Bool.{Bool, true, false, not, _&&_, _||_, and-eq-true-iff, false≢true}
+use Rattle.laws.specs.Prelude.{ℕ, _<_, _≤_, _+_, _-_, _*_, _≡_, _∙_, sym, ap, refl, ap₂, true, false, Bool, _&&_, not, and-eq-true-iff, _||_, false≢true}
+use Rattle.laws.specs.Prelude.{List, [], _∷_, map, mul-pos, ℕ-discrete, arith, eqb, leb, length, getD, length-map, List·getD-map, eq-eqb, eqb-true}
+use Rattle.laws.specs.Prelude.{not-true, leb-true}
 use mathlib.Core.Option.{Option, none, some}
-use mathlib.Core.List.{List, [], _∷_, map}
-use native.Mathlib.Nat.{mul-pos}
-use native.Mathlib.Decide.{ℕ-discrete}
-use native.Mathlib.Omega.{arith}
-use lib.ListN.{length, getD, length-map, List·getD-map}
-use lib.Dec.{eqb, leb}
-use borrow.Author.Tests.{leb-true, eqb-true, eq-eqb, not-true}
 use Rattle.rules.specs.Lists.{range, all, any, same, find}
 use Rattle.rules.specs.Text.{space, newline, text, digitByte, openByte, isDigit, decimal}
 use Rattle.rules.specs.Limits.{levelsFit, inputsFit, cellsFit, fewestInputs, mostInputs}

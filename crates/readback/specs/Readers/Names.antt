@@ -1,12 +1,6 @@
 -- Names: how a line of names is read, and that good names are distinct.
 -- Assumes nothing.
-use Prim.Native.Nat.{ℕ, zero, suc, _<_}
-use mathlib.Core.Path.{_≡_, refl}
-use mathlib.Core.Bool.{true, false}
-use mathlib.Core.Logic.{_↔_}
-use mathlib.Core.List.{List, [], _∷_, _++_, append-nil}
-use native.Mathlib.Omega.{arith}
-use lib.ListN.{length, getD}
+use Rattle.laws.specs.Prelude.{ℕ, _<_, suc, zero, _≡_, refl, _↔_, true, false, List, [], _∷_, _++_, append-nil, arith, length, getD}
 use Rattle.rules.specs.Lists.{any, same}
 use Rattle.rules.specs.Text.{space}
 use Rattle.rules.specs.Sheets.Fields.{isSeparator}

@@ -1,12 +1,7 @@
 -- The numbers with which a sheet is refused: a net sheet with 1, 2, 3, 4, 6, 7, 8 or 26, a table sheet with 1 to 6, a loose one with these and 20.
 -- Assumes nothing.
-use Prim.Native.Nat.{ℕ, zero, suc, _+_, _-_, _*_, _^_}
-use mathlib.Core.Path.{_≡_, refl, sym}
-use mathlib.Core.Bool.{Bool, true, false, not, _&&_}
+use Rattle.laws.specs.Prelude.{ℕ, _+_, _-_, _^_, suc, _*_, zero, _≡_, sym, refl, true, false, Bool, _&&_, not, List, [], _∷_, _++_, map, eqb, length}
 use mathlib.Core.Option.{Option, none, some}
-use mathlib.Core.List.{List, [], _∷_, _++_, map}
-use lib.ListN.{length}
-use lib.Dec.{eqb}
 use Rattle.rules.specs.Lists.{all, any, same}
 use Rattle.rules.specs.Text.{space, newline, digitByte, isDigit}
 use Rattle.rules.specs.Limits.{levelsFit, cellsFit}

@@ -1,12 +1,7 @@
 -- Where a sheet is refused. The place is at most the sheet's length. "Sheets are judged from the front, field by field": the bytes after
 -- the refused field and the byte that follows it do not matter.
 -- Assumes nothing.
-use Prim.Native.Nat.{ℕ, suc, _≤_}
-use mathlib.Core.Path.{_≡_, refl, ap}
-use mathlib.Core.List.{List}
-use native.Mathlib.Nat.{zero-add}
-use native.Mathlib.Omega.{arith}
-use lib.ListN.{length, take, drop}
+use Rattle.laws.specs.Prelude.{ℕ, _≤_, suc, _≡_, ap, refl, List, zero-add, arith, length, take, drop}
 use Rattle.rules.specs.Sheets.Fields.{Read, read, turnedBack, Reader, run}
 use Rattle.rules.specs.Sheets.Sheets.{netSheet, tableSheet}
 use Rattle.rules.specs.Calls.Answers.{Answer, refused}

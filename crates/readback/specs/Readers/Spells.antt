@@ -1,10 +1,7 @@
 -- A reader and the texts that it reads. Reading is inverted once, reader by reader: a reader spells some values in some
 -- texts if it reads each of those texts back and accepts nothing else. The laws here combine such readers.
 -- Assumes nothing.
-use Prim.Native.Nat.{ℕ}
-use mathlib.Core.Path.{_≡_, refl, sym, _∙_, ap}
-use mathlib.Core.List.{List, [], _++_, append-assoc}
-use native.Mathlib.Omega.{arith}
+use Rattle.laws.specs.Prelude.{ℕ, _≡_, _∙_, sym, ap, refl, List, [], _++_, append-assoc, arith}
 use Rattle.rules.specs.Sheets.Fields.{Read, read, turnedBack, Reader, then, _>>=_, give}
 
 -- `r` reads the texts `print x`, with value `value x`, if what follows such a text satisfies `Before`; it reads no others, and what it leaves

@@ -1,10 +1,8 @@
 -- One walk over the readers of every sheet. If a property of readers is preserved by giving a value, by chaining two readers and by reading a field,
 -- it holds for the reader of a sheet, since that is built from these. `Among`, `FromFront` and `Goes` are such properties.
 -- Assumes nothing.
-use Prim.Native.Nat.{ℕ, zero, suc, _-_, _^_}
+use Rattle.laws.specs.Prelude.{ℕ, _-_, _^_, suc, zero, List, [], _∷_, _++_, length}
 use Prim.Native.String.{String}
-use mathlib.Core.List.{List, [], _∷_, _++_}
-use lib.ListN.{length}
 use Rattle.rules.specs.Text.{space, newline}
 use Rattle.rules.specs.Sheets.Fields.{Reader, _>>=_, give, Judge, Layout, strict, fieldIn, theWord, closed}
 use Rattle.rules.specs.Sheets.Sheets.{Gate, levelsField, inputsField, nameField, nameFieldsIn, headerLinesIn, referenceField, digitsField, usedBy}

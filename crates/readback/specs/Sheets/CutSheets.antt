@@ -3,18 +3,11 @@
 -- part with fewer gate lines says nothing about the sheet, which may be accepted too, as another net. So "a sheet without an earlier fault that
 -- hasn't ended by then" (document 02, K6), cut there, is refused with 1 at the cut: for every sheet, and every cut after the first lines.
 -- Assumes nothing.
-use Prim.Native.Nat.{ℕ, zero, suc, _+_, _-_, _*_, _^_, _≤_, _<_}
+use Rattle.laws.specs.Prelude.{ℕ, _<_, _≤_, _+_, _-_, _^_, suc, _*_, zero, _≡_, _∙_, sym, ap, refl, ap₂, subst⁻¹, true, false, Bool, _&&_, not}
+use Rattle.laws.specs.Prelude.{and-eq-true-iff, List, [], _∷_, _++_, map, zero-add, mul-le-mul, arith, eqb, length, take, drop, length-append, length-drop}
+use Rattle.laws.specs.Prelude.{take-append-drop, length-take-le, eqb-true}
 use Prim.Native.String.{String}
-use mathlib.Core.Path.{_≡_, refl, sym, _∙_, ap, ap₂, subst⁻¹}
-use mathlib.Core.Bool.{Bool, true, false, not, _&&_, and-eq-true-iff}
 use mathlib.Core.Option.{Option, none, some}
-use mathlib.Core.List.{List, [], _∷_, _++_, map}
-use native.Mathlib.Nat.{zero-add, mul-le-mul}
-use native.Mathlib.Omega.{arith}
-use lib.ListN.{length, take, drop, length-append, length-drop, take-append-drop}
-use lib.Seq.{length-take-le}
-use lib.Dec.{eqb}
-use borrow.Author.Tests.{eqb-true}
 use Rattle.rules.specs.Lists.{all, any, same}
 use Rattle.rules.specs.Text.{space, newline, text, digitByte, isDigit}
 use Rattle.rules.specs.Limits.{cellsFit, mostLevels, mostInputs}

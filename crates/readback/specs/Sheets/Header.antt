@@ -1,9 +1,6 @@
 -- The first three lines of a sheet.
 -- Assumes nothing.
-use Prim.Native.Nat.{ℕ}
-use mathlib.Core.Path.{_≡_, refl, sym}
-use mathlib.Core.Bool.{true}
-use mathlib.Core.List.{List, [], _∷_, _++_, append-assoc, append-nil}
+use Rattle.laws.specs.Prelude.{ℕ, _≡_, sym, refl, true, List, [], _∷_, _++_, append-assoc, append-nil}
 use Rattle.rules.specs.Lists.{all, same}
 use Rattle.rules.specs.Text.{space, newline, text, decimal}
 use Rattle.rules.specs.Sheets.Fields.{isSeparator}

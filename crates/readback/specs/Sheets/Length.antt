@@ -1,11 +1,7 @@
 -- "the settled sheet's length, which is never over 512": this holds for every accepted net sheet.
 -- Assumes nothing.
-use Prim.Native.Nat.{ℕ, suc, _+_, _-_, _*_, _≤_, _<_}
-use mathlib.Core.Path.{refl}
-use mathlib.Core.List.{List, [], _∷_}
-use native.Mathlib.Nat.{le-trans, mul-le-mul-right}
-use native.Mathlib.Omega.{arith}
-use lib.ListN.{length, length-append, length-map, getD}
+use Rattle.laws.specs.Prelude.{ℕ, _<_, _≤_, _+_, _-_, suc, _*_, refl, List, [], _∷_, mul-le-mul-right, le-trans, arith, length, getD, length-append}
+use Rattle.laws.specs.Prelude.{length-map}
 use Rattle.rules.specs.Lists.{range, all, concatMap}
 use Rattle.rules.specs.Text.{text}
 use Rattle.rules.specs.Limits.{cellsFit, mostSettled}

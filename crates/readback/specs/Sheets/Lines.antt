@@ -1,15 +1,8 @@
 -- A sheet as lines: its text is each line's bytes, then a line feed, and no line contains a line feed. This holds for a printed net, since its
 -- fields are words.
 -- Assumes nothing.
-use Prim.Native.Nat.{ℕ, zero, suc, _<_}
-use mathlib.Core.Path.{_≡_, refl, sym, ap, _∙_}
-use mathlib.Core.Bool.{Bool, true, false, not, _||_, false≢true}
-use mathlib.Core.List.{List, [], _∷_, _++_, map, append-assoc, append-nil}
-use native.Mathlib.Omega.{arith}
-use lib.ListN.{length}
-use lib.Seq.{append-snoc}
-use lib.Dec.{eqb}
-use borrow.Author.Tests.{not-true}
+use Rattle.laws.specs.Prelude.{ℕ, _<_, suc, zero, _≡_, _∙_, sym, ap, refl, true, false, Bool, not, _||_, false≢true, List, [], _∷_, _++_, map}
+use Rattle.laws.specs.Prelude.{append-assoc, append-nil, arith, eqb, length, append-snoc, not-true}
 use Rattle.rules.specs.Lists.{all, concatMap}
 use Rattle.rules.specs.Text.{space, newline, text, digitByte, decimal}
 use Rattle.rules.specs.Sheets.Fields.{isSeparator}

@@ -1,11 +1,7 @@
 -- The two laws of sheets, for net sheets and for table sheets: reading what was printed gives it back, and what was accepted is
 -- exactly what would be printed and follows every rule.
 -- Assumes nothing.
-use Prim.Native.Nat.{ℕ}
-use mathlib.Core.Path.{_≡_, refl, _∙_, ap}
-use mathlib.Core.Logic.{_↔_}
-use mathlib.Core.List.{List, [], _++_, append-nil}
-use native.Mathlib.Omega.{arith}
+use Rattle.laws.specs.Prelude.{ℕ, _≡_, _∙_, ap, refl, _↔_, List, [], _++_, append-nil, arith}
 use Rattle.rules.specs.Sheets.Fields.{Read, read, turnedBack, Reader}
 use Rattle.rules.specs.Sheets.Sheets.{Net, Table}
 use Rattle.rules.specs.Sheets.Printed.{printedNet, printedTable}

@@ -1,14 +1,8 @@
 -- A field of a loose sheet: the words that a judge accepts, each followed by one or more spaces if a space is due, or by any number of spaces and
 -- the line feed if that is due.
 -- Assumes nothing.
-use Prim.Native.Nat.{ℕ, zero, suc, _+_}
-use mathlib.Core.Path.{_≡_, refl, sym, _∙_, ap}
-use mathlib.Core.Bool.{Bool, true, false, false≢true}
-use mathlib.Core.List.{List, [], _∷_, _++_, append-assoc}
-use native.Mathlib.Omega.{arith}
-use lib.ListN.{replicate}
-use lib.Dec.{eqb}
-use borrow.Author.Tests.{eqb-true}
+use Rattle.laws.specs.Prelude.{ℕ, _+_, suc, zero, _≡_, _∙_, sym, ap, refl, true, false, Bool, false≢true, List, [], _∷_, _++_, append-assoc, arith, eqb}
+use Rattle.laws.specs.Prelude.{replicate, eqb-true}
 use Rattle.rules.specs.Text.{space, newline}
 use Rattle.rules.specs.Sheets.Fields.{read, turnedBack, then, Judge, isSeparator, separator, pastSpaces, spacesIn, spaces, loose, looseSeparator, fieldIn}
 use Rattle.rules.specs.Sheets.LooseSheet.{blanks}

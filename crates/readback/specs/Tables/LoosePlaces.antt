@@ -1,13 +1,8 @@
 -- Where a loose sheet is refused: the place is at most the sheet's length. The place of a repeated row is its first field, which is before what is
 -- judged then. So each reader is considered with a place that is not after its start.
 -- Assumes nothing.
-use Prim.Native.Nat.{ℕ, zero, suc, _+_, _*_, _^_, _≤_}
-use mathlib.Core.Path.{_≡_, refl, ap, _∙_}
-use mathlib.Core.Bool.{Bool, true, false}
-use mathlib.Core.List.{List, [], _∷_, _++_}
-use native.Mathlib.Omega.{arith}
-use lib.ListN.{length, length-append}
-use lib.Dec.{eqb}
+use Rattle.laws.specs.Prelude.{ℕ, _≤_, _+_, _^_, suc, _*_, zero, _≡_, _∙_, ap, refl, true, false, Bool, List, [], _∷_, _++_, arith, eqb, length}
+use Rattle.laws.specs.Prelude.{length-append}
 use Rattle.rules.specs.Lists.{any}
 use Rattle.rules.specs.Text.{space, newline}
 use Rattle.rules.specs.Sheets.Fields.{Read, read, turnedBack, Reader, then, _>>=_, give, Judged, good, bad, Judge, run, past, separator, pastSpaces}

@@ -1,14 +1,7 @@
 -- Loose table sheets: what the reader of a loose sheet spells.
 -- Assumes nothing.
-use Prim.Native.Nat.{ℕ, zero, suc, _+_, _*_, _^_, _≤_, _<_}
-use mathlib.Core.Path.{_≡_, refl, sym, _∙_, ap, subst, subst⁻¹}
-use mathlib.Core.Bool.{Bool, true, false}
-use mathlib.Core.Logic.{_↔_}
-use mathlib.Core.List.{List, [], _∷_, _++_, map, append-assoc, append-nil}
-use native.Mathlib.Omega.{arith}
-use lib.ListN.{length}
-use lib.Seq.{append-snoc}
-use lib.Dec.{eqb}
+use Rattle.laws.specs.Prelude.{ℕ, _<_, _≤_, _+_, _^_, suc, _*_, zero, _≡_, _∙_, sym, ap, refl, subst, subst⁻¹, _↔_, true, false, Bool, List, [], _∷_, _++_}
+use Rattle.laws.specs.Prelude.{map, append-assoc, append-nil, arith, eqb, length, append-snoc}
 use Rattle.rules.specs.Lists.{all, any, same}
 use Rattle.rules.specs.Text.{space, newline, text, digitByte, decimal}
 use Rattle.rules.specs.Sheets.Fields.{Read, Reader, read, turnedBack, _>>=_, give, isSeparator, loose, fieldIn}

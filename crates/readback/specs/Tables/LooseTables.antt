@@ -1,16 +1,8 @@
 -- The table of a loose sheet: each row gives its ink to the assignment that it names, every assignment is named by exactly one row, and so the table
 -- follows the rules of a table sheet. A strict sheet is a loose one, with its rows in order, and is the sheet of its own table.
 -- Assumes nothing.
-use Prim.Native.Nat.{ℕ, zero, suc, _+_, _^_, _≤_, _<_}
-use mathlib.Core.Path.{_≡_, refl, sym, _∙_, ap, subst⁻¹}
-use mathlib.Core.Bool.{Bool, true, false, false≢true}
-use mathlib.Core.List.{List, [], _∷_, _++_, map, append-assoc}
-use native.Mathlib.Omega.{arith}
-use native.Mathlib.Nat.{zero-add}
-use lib.ListN.{length, getD, length-map}
-use lib.Seq.{ext-getD}
-use lib.Dec.{eqb}
-use borrow.Author.Tests.{eqb-true, eq-eqb, ne-eqb}
+use Rattle.laws.specs.Prelude.{ℕ, _<_, _≤_, _+_, _^_, suc, zero, _≡_, _∙_, sym, ap, refl, subst⁻¹, true, false, Bool, false≢true, List, [], _∷_, _++_, map}
+use Rattle.laws.specs.Prelude.{append-assoc, zero-add, arith, eqb, length, getD, length-map, ext-getD, eq-eqb, eqb-true, ne-eqb}
 use Rattle.rules.specs.Lists.{range, any, find}
 use Rattle.rules.specs.Text.{text, decimal}
 use Rattle.rules.specs.Sheets.Sheets.{Table}

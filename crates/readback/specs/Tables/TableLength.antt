@@ -1,15 +1,7 @@
 -- How long an accepted table sheet can be, and which are longer than what a program reads.
 -- Assumes nothing.
-use Prim.Native.Nat.{ℕ, suc, _+_, _*_, _^_, _≤_, _<_}
-use mathlib.Core.Path.{_≡_, refl, sym, ap, ap₂, _∙_}
-use mathlib.Core.Logic.{_⊎_, inl, inr}
-use mathlib.Core.Bool.{Bool, true, false, _&&_, _||_, and-eq-true-iff}
-use mathlib.Core.List.{List, [], _∷_, _++_, map}
-use native.Mathlib.Nat.{le-trans, zero-mul, suc-mul}
-use native.Mathlib.Omega.{arith}
-use lib.ListN.{length, length-append}
-use lib.Dec.{leb, eqb}
-use borrow.Author.Tests.{leb-true, eqb-true}
+use Rattle.laws.specs.Prelude.{ℕ, _<_, _≤_, _+_, _^_, suc, _*_, _≡_, _∙_, sym, ap, refl, ap₂, _⊎_, inl, inr, true, false, Bool, _&&_, and-eq-true-iff}
+use Rattle.laws.specs.Prelude.{_||_, List, [], _∷_, _++_, map, zero-mul, suc-mul, le-trans, arith, eqb, leb, length, length-append, eqb-true, leb-true}
 use Rattle.rules.specs.Lists.{range, all}
 use Rattle.rules.specs.Text.{text, digitByte}
 use Rattle.rules.specs.Limits.{cellsFit, mostTableSheet, mostRead}

@@ -1,10 +1,6 @@
 -- Table sheets: what the reader of a table sheet spells.
 -- Assumes nothing.
-use Prim.Native.Nat.{ℕ, zero, suc, _^_, _≤_}
-use mathlib.Core.Path.{_≡_, refl, sym}
-use mathlib.Core.List.{List, [], _∷_, _++_, map, append-assoc, append-nil}
-use native.Mathlib.Omega.{arith}
-use lib.ListN.{length}
+use Rattle.laws.specs.Prelude.{ℕ, _≤_, _^_, suc, zero, _≡_, sym, refl, List, [], _∷_, _++_, map, append-assoc, append-nil, arith, length}
 use Rattle.rules.specs.Lists.{all}
 use Rattle.rules.specs.Text.{space, newline, text, digitByte}
 use Rattle.rules.specs.Sheets.Fields.{_>>=_, isSeparator, field}

@@ -102,7 +102,12 @@ keptInto net t cells output =
               | true ↦ record { answer = turnedAway neither 23 (suc (roomyBefore net t)); cells = cells-then; output = output }
               | false ↦ elim (ltb (length output) (length sheet)) [
                 | true ↦ record { answer = turnedAway neither 15 (length sheet); cells = cells-then; output = output }
-                | false ↦ record { answer = rewritten (length sheet) (changedGates (net .gates) (kept .gates)); cells = cells-then; output = written output sheet }
+                | false ↦ record {
+                  answer = rewritten (length sheet) (changedGates (net .gates) (kept .gates));
+                  cells = cells-then;
+                  output =
+                      written output sheet;
+                }
               ]
             ]
           ]

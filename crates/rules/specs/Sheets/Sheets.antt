@@ -203,5 +203,6 @@ tableSheet = do
 
 -- all of this file computes
 unfoldable pub computing : Unit {0}
-unfolding levelsField inputsOf inputsField isLetter letterFirst isName nameField nameFieldsIn headerLinesIn referenceText referenceOf referenceField digitsField usedBy gateLine orEnd gateLines earlierUsed allUsed netSheet level levelsAt levelField inkField inkByte levelFields rowLines tableSheet
+unfolding levelsField inputsOf inputsField isLetter letterFirst isName nameField nameFieldsIn headerLinesIn referenceText referenceOf referenceField
+    digitsField usedBy gateLine orEnd gateLines earlierUsed allUsed netSheet level levelsAt levelField inkField inkByte levelFields rowLines tableSheet
 computing = tt

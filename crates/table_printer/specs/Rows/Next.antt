@@ -1,14 +1,8 @@
 -- From a row's levels to the next row's: the last four as a number, and those before them if the four become zeros.
 -- Assumes nothing.
-use Prim.Native.Nat.{ℕ, zero, suc, _+_, _-_, _*_, _/_, _%_, _≤_, _<_}
-use mathlib.Core.Path.{_≡_, refl, sym, ap, _∙_}
-use mathlib.Core.Bool.{Bool, true, false, cond, _&&_, and-false, false≢true}
-use mathlib.Core.List.{List, [], _∷_, _++_}
-use native.Mathlib.Omega.{arith}
-use lib.Dec.{leb}
-use lib.ListN.{length, getD, take, drop, replicate, getD-replicate}
-use lib.Seq.{length-take-le, length-front, take-at, take-add}
-use borrow.Author.Tests.{leb-false, le-leb, lt-leb}
+use Rattle.laws.specs.Prelude.{ℕ, _<_, _≤_, _+_, _-_, suc, _*_, zero, _%_, _/_, _≡_, _∙_, sym, ap, refl, true, false, Bool, _&&_, cond, false≢true}
+use Rattle.laws.specs.Prelude.{and-false, List, [], _∷_, _++_, arith, leb, length, getD, take, drop, replicate, getD-replicate, length-take-le, take-at}
+use Rattle.laws.specs.Prelude.{take-add, length-front, le-leb, lt-leb, leb-false}
 use Rattle.rules.specs.Limits.{mostLevels, mostInputs}
 use Rattle.rules.specs.Sheets.Sheets.{levelsAt}
 use Rattle.laws.specs.Lists.Bounds.{Below, below-append}
@@ -225,17 +219,21 @@ module _ (m n : ℕ) (words : Words) (levels ls : List ℕ) (row : PrintedSpells
   row-turns few most zeros after e front words-are =
       let fits : length (take (n - 4) levels) ≡ n - 4 = length-take-le (n - 4) levels (omega (arith, row .front .long)) in
       let stepped : length (nextLevels m (take (n - 4) levels)) ≡ n - 4 = next-length m (take (n - 4) levels) ∙ fits in
-      let kept : length after ≡ length levels = ap length e ∙ length-front levels (nextLevels m (take (n - 4) levels)) (n - 4) (next-length m (take (n - 4) levels)) in
+      let kept : length after ≡ length levels = ap length e ∙ length-front levels (nextLevels m (take (n - 4) levels)) (n - 4)
+      (next-length m (take (n - 4) levels)) in
       let wide = words-are (omega arith) in
-      let digits : Below 10 after = rw e (below-append 10 (nextLevels m (take (n - 4) levels)) (drop (n - 4) levels) (next-below m 10 few (take (n - 4) levels) (below-take (n - 4) levels (row .front .digits))) (below-drop (n - 4) levels (row .front .digits))) in
-      let now : take (n - 4) after ≡ nextLevels m (take (n - 4) levels) = ap (take (n - 4)) e ∙ take-at (nextLevels m (take (n - 4) levels)) (drop (n - 4) levels) (n - 4) stepped in
+      let digits : Below 10 after = rw e (below-append 10 (nextLevels m (take (n - 4) levels)) (drop (n - 4) levels)
+      (next-below m 10 few (take (n - 4) levels) (below-take (n - 4) levels (row .front .digits))) (below-drop (n - 4) levels (row .front .digits))) in
+      let now : take (n - 4) after ≡ nextLevels m (take (n - 4) levels) =
+      ap (take (n - 4)) e ∙ take-at (nextLevels m (take (n - 4) levels)) (drop (n - 4) levels) (n - 4) stepped in
       record {
         front = record { long = omega (arith, kept, row .front .long); digits = digits; first = wide .first; middle = wide .middle };
         four = nextLevels m (row .four);
         count = next-count;
         below = next-below m m (omega arith) (row .four) (row .below);
         last = four .word;
-        is = ap (nextLevels m) (row .is) ∙ (next-both m (take (n - 4) levels) (row .four) (all (allTop m (row .four)) refl) ∙ ap (λ (l : List ℕ). l ++ nextLevels m (row .four)) (sym now));
+        is = ap (nextLevels m) (row .is) ∙ (next-both m (take (n - 4) levels) (row .four) (all (allTop m (row .four)) refl)
+            ∙ ap (λ (l : List ℕ). l ++ nextLevels m (row .four)) (sym now));
       }
     where
       all : (t : Bool) → allTop m (row .four) ≡ t → allTop m (row .four) ≡ true

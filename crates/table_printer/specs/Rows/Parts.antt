@@ -1,8 +1,6 @@
 -- A table sheet in the parts in which it is written.
 -- Assumes nothing.
-use Prim.Native.Nat.{ℕ}
-use mathlib.Core.Path.{_≡_}
-use mathlib.Core.List.{List, [], _∷_, _++_, map, append-assoc}
+use Rattle.laws.specs.Prelude.{ℕ, _≡_, List, [], _∷_, _++_, map, append-assoc}
 use Rattle.rules.specs.Text.{text, decimal}
 use Rattle.rules.specs.Lists.{range}
 use Rattle.rules.specs.Sheets.Printed.{line, firstLines, printedRows, printedTable}

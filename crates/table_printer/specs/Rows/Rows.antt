@@ -1,12 +1,7 @@
 -- A table sheet's rows, byte by byte.
 -- Assumes nothing.
-use Prim.Native.Nat.{ℕ, _+_, _*_, _≤_, _<_}
-use mathlib.Core.Path.{_≡_, refl, ap, _∙_}
-use mathlib.Core.List.{List, [], _∷_, _++_, map}
-use native.Mathlib.Numerals.{add-one}
-use native.Mathlib.Omega.{arith}
-use lib.ListN.{length, getD, drop, length-append, drop-of-length-le}
-use lib.Seq.{drop-cons}
+use Rattle.laws.specs.Prelude.{ℕ, _<_, _≤_, _+_, _*_, _≡_, _∙_, ap, refl, List, [], _∷_, _++_, map, add-one, arith, length, getD, drop, length-append}
+use Rattle.laws.specs.Prelude.{drop-of-length-le, drop-cons}
 use Rattle.rules.specs.Text.{space, newline, digitByte}
 use Rattle.rules.specs.Sheets.Sheets.{levelsAt, inkByte}
 use Rattle.rules.specs.Sheets.Printed.{line, printedRow, printedRows}

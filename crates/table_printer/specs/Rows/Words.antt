@@ -1,13 +1,8 @@
 -- A row's levels four at a time: four levels, each with the space after it, as one number, and its eight bytes.
 -- Assumes nothing.
-use Prim.Native.Nat.{ℕ, zero, suc, _+_, _-_, _*_, _/_, _%_, _≤_, _<_}
-use mathlib.Core.Path.{_≡_, refl, sym, ap, _∙_}
-use mathlib.Core.List.{List, [], _∷_, _++_, map}
-use native.Mathlib.Nat.{div-div-eq-div-mul}
-use native.Mathlib.Omega.{arith}
-use lib.Arith.{digits-mod}
-use lib.ListN.{length, getD, take, drop, set, length-append, length-drop}
-use lib.Seq.{sets, length-sets, set-set, set-comm, take-add, drop-cons, length-take-le}
+use Rattle.laws.specs.Prelude.{ℕ, _<_, _≤_, _+_, _-_, suc, _*_, zero, _%_, _/_, _≡_, _∙_, sym, ap, refl, List, [], _∷_, _++_, map, div-div-eq-div-mul}
+use Rattle.laws.specs.Prelude.{arith, length, getD, take, drop, set, length-append, length-drop, length-take-le, drop-cons, sets, length-sets, take-add}
+use Rattle.laws.specs.Prelude.{set-comm, set-set, digits-mod}
 use Rattle.rules.specs.Limits.{mostInputs}
 use Rattle.rules.specs.Text.{space, newline, digitByte, zeroByte, spaceByte}
 use Rattle.laws.specs.Lists.Bounds.{Below, below-more}
@@ -107,7 +102,15 @@ four-levels levels i h =
     let one : i + 1 ≡ suc i = omega arith in
     let two : i + 2 ≡ suc (suc i) = omega arith in
     let three : i + 2 + 1 ≡ suc (suc (suc i)) = omega arith in
-    rw (three, two, one, drop-cons levels i 0 (omega arith), drop-cons levels (suc i) 0 (omega arith), drop-cons levels (suc (suc i)) 0 (omega arith), drop-cons levels (suc (suc (suc i))) 0 (omega arith))
+    rw (
+      three,
+      two,
+      one,
+      drop-cons levels i 0 (omega arith),
+      drop-cons levels (suc i) 0 (omega arith),
+      drop-cons levels (suc (suc i)) 0 (omega arith),
+      drop-cons levels (suc (suc (suc i))) 0 (omega arith),
+    )
 
 pub below-take : (k : ℕ) (ls : List ℕ) → Below 10 ls → Below 10 (take k ls)
 below-take zero ls h = tt
@@ -124,7 +127,8 @@ word-text : (levels : List ℕ) (i : ℕ) → i + 4 ≤ length levels → Below 
 word-text levels i h digits =
     let is : dueWord levels i ≡ levelsWord (take 4 (drop i levels)) = rw (four-levels levels i h) (omega arith) in
     ap wordBytes is
-    ∙ four-text (take 4 (drop i levels)) (length-take-le 4 (drop i levels) (rw length-drop (omega arith))) (below-take 4 (drop i levels) (below-drop i levels digits))
+    ∙ four-text (take 4 (drop i levels)) (length-take-le 4 (drop i levels) (rw length-drop (omega arith)))
+    (below-take 4 (drop i levels) (below-drop i levels digits))
 
 -- ---- a text written over another
 
@@ -180,7 +184,14 @@ module _ (words : Words) (n : ℕ) (before : List ℕ) (at : ℕ) (wide : 4 ≤ 
       e ∙ ap (λ (t : List ℕ). sets before at t) (ap wordBytes (front .first) ∙ word-text levels 0 (omega (arith, front .long)) (front .digits))
 
   pub four-put : (after : List ℕ) → n ≤ 8 → after ≡ sets before at (wordBytes (words .first)) → FrontPut words n before at after 4
-  four-put after few e = record { least = omega arith; most = wide; few = omega arith; kept = ap length e ∙ length-sets before at (wordBytes (words .first)); text = λ levels front. first-text levels front after e }
+  four-put after few e = record {
+    least = omega arith;
+    most = wide;
+    few = omega arith;
+    kept =
+        ap length e ∙ length-sets before at (wordBytes (words .first));
+    text = λ levels front. first-text levels front after e;
+  }
 
   pub eight-put : (after later : List ℕ) → 8 ≤ n → n ≤ mostInputs → after ≡ sets before at (wordBytes (words .first))
       → later ≡ sets after (at + 8) (wordBytes (words .middle)) → FrontPut words n before at later 8
@@ -192,7 +203,8 @@ module _ (words : Words) (n : ℕ) (before : List ℕ) (at : ℕ) (wide : 4 ≤ 
         kept = ap length f ∙ (length-sets after (at + 8) (wordBytes (words .middle)) ∙ (ap length e ∙ length-sets before at (wordBytes (words .first))));
         text = λ levels front.
             let long : 8 ≡ length (levelsText (take 4 levels)) = sym (front-length levels 4 (omega (arith, front .long))) in
-            let middle : wordBytes (words .middle) ≡ levelsText (take 4 (drop 4 levels)) = ap wordBytes (front .middle) ∙ word-text levels 4 (front .long) (front .digits) in
+            let middle : wordBytes (words .middle) ≡ levelsText (take 4 (drop 4 levels)) =
+            ap wordBytes (front .middle) ∙ word-text levels 4 (front .long) (front .digits) in
             f
             ∙ ((λ i. sets (first-text levels front after e i) (at + long i) (middle i))
             ∙ (sym (sets-append (levelsText (take 4 levels)) (levelsText (take 4 (drop 4 levels))) before at)

@@ -1,12 +1,7 @@
 -- A row with the expected bytes, two bytes at a time.
 -- Assumes nothing.
-use Prim.Native.Nat.{ℕ, _+_, _*_, _≤_, _<_}
-use mathlib.Core.Path.{_≡_, refl, sym, ap, _∙_}
-use mathlib.Core.Bool.{Bool, true, false, false≢true}
-use mathlib.Core.List.{List, [], _∷_, _++_}
-use native.Mathlib.Omega.{arith}
-use lib.ListN.{length, take, drop, getD, drop-of-length-le}
-use lib.Seq.{length-take-le}
+use Rattle.laws.specs.Prelude.{ℕ, _<_, _≤_, _+_, _*_, _≡_, _∙_, sym, ap, refl, true, false, Bool, false≢true, List, [], _∷_, _++_, arith, length, getD}
+use Rattle.laws.specs.Prelude.{take, drop, drop-of-length-le, length-take-le}
 use Rattle.rules.specs.Text.{space, newline, spaceByte, newlineByte, openByte}
 use Rattle.rules.specs.Sheets.Fields.{read, then, field}
 use Rattle.rules.specs.Sheets.Sheets.{levelField, inkField, levelFields}
@@ -23,9 +18,9 @@ use Rattle.table_reader.specs.Row.{rowLine, InRow, table-row-next}
 abbrev pub AreDigits : List ℕ → ℕ → Type 0
 AreDigits levels n = (k : ℕ) → k < n → getD levels k 0 < 10
 
--- the bytes of a row with `front` levels before the last
+-- the bytes of a row with `front` levels before the last two
 abbrev pub rowBytes : ℕ → ℕ
-rowBytes front = 2 * front + 4
+rowBytes front = 2 * front + 6
 
 -- the levels `ls` are at `at`, each followed by a space, and end at `next`
 abbrev pub LevelsStand : List ℕ → ℕ → List ℕ → ℕ → Type 0
@@ -48,14 +43,17 @@ module _ (s : List ℕ) (place : ℕ) where
 
   sign-ink : (m : ℕ) → OneByte s place openByte newlineByte → read m (drop (place + 2) s) (place + 2) ≡ field (inkField m) newlineByte (drop place s) place
   sign-ink m sign =
-      byte-read (inkField m) m s place openByte newlineByte (is-neither openByte (λ e. omega (arith, e)) (λ e. omega (arith, e))) (is-newline newlineByte refl) sign (field-open m openByte refl)
+      byte-read (inkField m) m s place openByte newlineByte (is-neither openByte (λ e. omega (arith, e)) (λ e. omega (arith, e)))
+      (is-newline newlineByte refl) sign (field-open m openByte refl)
 
-  plain-ink : (m ink : ℕ) → ink < m → Plain s place ink newlineByte → read ink (drop (place + 2) s) (place + 2) ≡ field (inkField m) newlineByte (drop place s) place
+  plain-ink : (m ink : ℕ) → ink < m → Plain s place ink newlineByte
+      → read ink (drop (place + 2) s) (place + 2) ≡ field (inkField m) newlineByte (drop place s) place
   plain-ink m ink below plain = plain-read (inkField m) ink s place ink newlineByte (is-newline newlineByte refl) plain (ink-digit m ink below)
 
 module _ (s levels : List ℕ) (at n place i : ℕ) (room : n ≤ length levels) (row : InRow s levels at n place i) where
   pub table-levels-next : i < n → Plain s place (getD levels i 0) spaceByte → InRow s levels at n (place + 2) (i + 1)
-  table-levels-next more plain = table-row-next s levels at n place i room row more (On 0 (place + 2)) (plain-level s place (getD levels i 0) plain) 0 (place + 2) refl
+  table-levels-next more plain =
+      table-row-next s levels at n place i room row more (On 0 (place + 2)) (plain-level s place (getD levels i 0) plain) 0 (place + 2) refl
 
   pub levels-done : n ≤ i → LevelsStand s at (take n levels) place
   unfolding levelFields
@@ -73,7 +71,7 @@ fields-append (x ∷ xs) ys t q =
     ∙ sym (field-then-then (field (levelField x) space t q) (λ _. levelFields xs) (λ _. levelFields ys))
 
 module _ (s ls : List ℕ) (m at end last : ℕ) (front : LevelsStand s at ls end) (level : Plain s end last spaceByte) where
-  all-levels : LevelsStand s at (ls ++ (last ∷ [])) (end + 2)
+  pub all-levels : LevelsStand s at (ls ++ (last ∷ [])) (end + 2)
   unfolding levelFields then space
   all-levels = rw (fields-append ls (last ∷ []) (drop at s) at, ← front, ← (plain-level s end last level)) refl
 

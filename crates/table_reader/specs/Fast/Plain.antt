@@ -1,13 +1,6 @@
 -- A field of one byte, mostly a digit, with the required separator after it: two bytes, compared as one number.
 -- Assumes nothing.
-use Prim.Native.Nat.{ℕ, _+_, _*_, _<_}
-use mathlib.Core.Path.{_≡_, refl, ap}
-use mathlib.Core.Bool.{true, false}
-use mathlib.Core.List.{List, [], _∷_}
-use native.Mathlib.Numerals.{add-one}
-use native.Mathlib.Omega.{arith}
-use lib.ListN.{length, drop, getD}
-use borrow.Author.Tests.{eq-eqb}
+use Rattle.laws.specs.Prelude.{ℕ, _<_, _+_, _*_, _≡_, ap, refl, true, false, List, [], _∷_, add-one, arith, length, getD, drop, eq-eqb}
 use Rattle.rules.specs.Text.{zeroByte}
 use Rattle.rules.specs.Sheets.Fields.{Read, read, Judge, good, isSeparator, run, past, separator, afterFieldIn, fieldOfIn, field, fieldIn}
 use Rattle.laws.specs.Lists.Walks.{rest}

@@ -1,13 +1,7 @@
 -- The rows, one after the other.
 -- Assumes nothing.
-use Prim.Native.Nat.{ℕ, suc, _+_, _-_, _^_, _≤_, _<_}
-use mathlib.Core.Path.{_≡_, refl, sym, ap, _∙_}
-use mathlib.Core.List.{List, [], _∷_, _++_}
-use native.Mathlib.Omega.{arith}
-use native.Mathlib.Nat.{sub-zero}
-use native.Mathlib.Numerals.{add-one}
-use lib.ListN.{length, take, drop, set}
-use lib.Seq.{take-suc-set}
+use Rattle.laws.specs.Prelude.{ℕ, _<_, _≤_, _+_, _-_, _^_, suc, _≡_, _∙_, sym, ap, refl, List, [], _∷_, _++_, sub-zero, add-one, arith, length, take, drop}
+use Rattle.laws.specs.Prelude.{set, take-suc-set}
 use Rattle.laws.specs.Lists.Bounds.{Below, below-append}
 use Rattle.rules.specs.Sheets.Fields.{then}
 use Rattle.rules.specs.Sheets.Sheets.{levelsAt, levelFields, rowLines}

@@ -1,12 +1,7 @@
 -- Levels at the expected places, four of them checked by eight bytes as one number.
 -- Assumes nothing.
-use Prim.Native.Nat.{ℕ, zero, suc, _+_, _-_, _*_, _≤_, _<_}
-use mathlib.Core.Path.{_≡_, sym, ap, _∙_, subst, subst₂}
-use mathlib.Core.List.{List}
-use native.Mathlib.Decide.{ℕ-discrete, decLt}
-use native.Mathlib.Numerals.{add-one}
-use native.Mathlib.Omega.{arith}
-use lib.ListN.{length, take, getD}
+use Rattle.laws.specs.Prelude.{ℕ, _<_, _≤_, _+_, _-_, suc, _*_, zero, _≡_, _∙_, sym, ap, subst, subst₂, List, add-one, decLt, ℕ-discrete, arith, length}
+use Rattle.laws.specs.Prelude.{getD, take}
 use Rattle.rules.specs.Limits.{mostInputs}
 use Rattle.rules.specs.Text.{spaceByte}
 use Rattle.table_reader.specs.declared.fast.words.Words.{Words}
@@ -17,7 +12,7 @@ use Rattle.table_reader.specs.Fast.Due.{AreDigits, LevelsStand, table-le
 
 -- ---- equal numbers have equal parts
 
-small : (a b x y : ℕ) → a < 65536 → b < 65536 → a + 65536 * x ≡ b + 65536 * y → (a ≡ b) × (x ≡ y)
+pub small : (a b x y : ℕ) → a < 65536 → b < 65536 → a + 65536 * x ≡ b + 65536 * y → (a ≡ b) × (x ≡ y)
 small a b x y a< b< e = (omega (arith, e), omega (arith, e))
 
 large : (a b x y : ℕ) → a < 4294967296 → b < 4294967296 → a + 4294967296 * x ≡ b + 4294967296 * y → (a ≡ b) × (x ≡ y)

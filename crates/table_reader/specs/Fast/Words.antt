@@ -1,14 +1,6 @@
 -- Eight bytes as one number: four levels, each with the space after it, as read and as expected.
 -- Assumes nothing.
-use Prim.Native.Nat.{ℕ, _+_, _-_, _*_, _≤_, _<_}
-use mathlib.Core.Path.{_≡_}
-use mathlib.Core.Bool.{cond}
-use mathlib.Core.List.{List}
-use native.Mathlib.Decide.{decLt}
-use native.Mathlib.Omega.{arith}
-use lib.Dec.{ltb}
-use lib.ListN.{getD}
-use borrow.Author.Tests.{lt-ltb, le-ltb}
+use Rattle.laws.specs.Prelude.{ℕ, _<_, _≤_, _+_, _-_, _*_, _≡_, cond, List, decLt, arith, ltb, getD, lt-ltb, le-ltb}
 use Rattle.rules.specs.Limits.{mostInputs}
 use Rattle.rules.specs.Text.{zeroByte, spaceByte}
 use Rattle.table_reader.specs.declared.fast.words.Words.{Words}

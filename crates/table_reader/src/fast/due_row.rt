@@ -11,6 +11,7 @@ ghost use Rattle.table_reader.specs.Fast.Due.{AreDigits, rowBytes, Level
 use crate::fast::words::LEVEL;
 use crate::fast::words::Words;
 use crate::fast::words::eight_bytes;
+use crate::fast::words::four_bytes;
 use crate::fast::words::middle_of;
 use crate::fast::words::two_bytes;
 use crate::inks::OPEN;
@@ -59,7 +60,8 @@ fn are_wide(s: &[u8], at: usize, levels: &[u8], front: usize, words: Words) -> b
 
 // Does the same as `are_levels` for any number of levels.
 fn levels_due(s: &[u8], at: usize, levels: &[u8], front: usize, words: Words) -> bool
-    requires { ⌜ (front ≤ length (now levels)) × AreDigits (now levels) front × (at + 2 * front ≤ length (now s)) × (front ≤ mostInputs) × WordsOf (now levels) front words ⌝ }
+    requires { ⌜ (front ≤ length (now levels)) × AreDigits (now levels) front × (at + 2 * front ≤ length (now s)) × (front ≤ mostInputs)
+        × WordsOf (now levels) front words ⌝ }
     ensures { λ r. ⌜ (r ≡ true → LevelsStand (now (s .entry)) at (take front (now (levels .entry))) (at + 2 * front)) ⌝ }
 {
     if front < 4 {
@@ -68,32 +70,34 @@ fn levels_due(s: &[u8], at: usize, levels: &[u8], front: usize, words: Words) ->
     are_wide(s, at, levels, front, words)
 }
 
-// Returns the ink of the row at `at`, if the row is the expected one: the first `front` levels and then `last`.
+// Returns the ink of the row at `at`, if the row is the expected one: the first `front` levels, then `before` and then `last`.
 pub fn due_ink(
     s: &[u8],
     at: usize,
     levels: &[u8],
     words: Words,
     front: usize,
+    before: usize,
     last: usize,
     m: usize,
 ) -> Found
-    requires { ⌜ (front ≤ length (now levels)) × AreDigits (now levels) front × (last < 10) × (m ≤ mostLevels) × (at + rowBytes front ≤ length (now s))
-        × (front ≤ mostInputs) × WordsOf (now levels) front words ⌝ }
-    ensures { λ r. ⌜ ((ink : ℕ) → r ≡ At ink → RowStands (now (s .entry)) at m (take front (now (levels .entry)) ++ (last ∷ [])) ink (at + rowBytes front)) ⌝ }
+    requires { ⌜ (front ≤ length (now levels)) × AreDigits (now levels) front × (before < 10) × (last < 10) × (m ≤ mostLevels)
+        × (at + rowBytes front ≤ length (now s)) × (front ≤ mostInputs) × WordsOf (now levels) front words ⌝ }
+    ensures { λ r. ⌜ ((ink : ℕ) → r ≡ At ink
+        → RowStands (now (s .entry)) at m (take front (now (levels .entry)) ++ (before ∷ []) ++ (last ∷ [])) ink (at + rowBytes front)) ⌝ }
 {
     if !levels_due(s, at, levels, front, words) {
         return Found::Nowhere;
     }
     let end = at + 2 * front;
-    if two_bytes(s, end) != LEVEL + last {
+    if four_bytes(s, end) != LEVEL + before + 65536 * (LEVEL + last) {
         return Found::Nowhere;
     }
-    let ink = two_bytes(s, end + 2);
+    let ink = two_bytes(s, end + 4);
+    if ink == SIGN {
+        return Found::At(m);
+    }
     if ink < INK {
-        if ink == SIGN {
-            return Found::At(m);
-        }
         return Found::Nowhere;
     }
     if m <= ink - INK {

@@ -19,7 +19,7 @@ pub fn two_bytes(s: &[u8], at: usize) -> usize
 }
 
 // Returns the four bytes at `at` as a number.
-fn four_bytes(s: &[u8], at: usize) -> usize
+pub fn four_bytes(s: &[u8], at: usize) -> usize
     requires { ⌜ at + 3 < length (now s) ⌝ }
     ensures { λ r. ⌜ (r ≡ pairAt (now (s .entry)) at + 65536 * pairAt (now (s .entry)) (at + 2)) × (r < 4294967296) ⌝ }
 {

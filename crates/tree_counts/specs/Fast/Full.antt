@@ -1,17 +1,8 @@
 -- A group whose parts all have mark 2 has (2k − 3)!! trees, where k is the number of its members: as many as k inputs have.
 -- Assumes nothing.
-use Prim.Native.Nat.{ℕ, zero, suc, _+_, _-_, _*_, _^_, _≤_, _<_}
-use mathlib.Core.Path.{_≡_, refl, sym, ap, ap₂, _∙_}
-use mathlib.Core.Logic.{_≢_}
-use mathlib.Core.Bool.{Bool, true, false, cond, _&&_, false≢true, and-false}
-use mathlib.Core.List.{List, [], _∷_, _++_, map}
-use native.Mathlib.Nat.{mul-zero}
-use native.Mathlib.Decide.{ℕ-discrete, decLe}
-use native.Mathlib.Omega.{arith}
+use Rattle.laws.specs.Prelude.{ℕ, _<_, _≤_, _+_, _-_, _^_, suc, _*_, zero, _≡_, _∙_, sym, ap, refl, ap₂, _≢_, true, false, Bool, _&&_, cond, false≢true}
+use Rattle.laws.specs.Prelude.{and-false, List, [], _∷_, _++_, map, mul-zero, ℕ-discrete, decLe, arith, eqb, getD, eqb-true}
 use lib.Bits.{and-self, and-le-r}
-use lib.Dec.{eqb}
-use lib.ListN.{getD}
-use borrow.Author.Tests.{eqb-true}
 use Rattle.rules.specs.Limits.{mostInputs}
 use Rattle.rules.specs.Lists.{range, all, those, total}
 use Rattle.rules.specs.Groups.Groups.{member, size}

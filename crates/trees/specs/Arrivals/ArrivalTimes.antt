@@ -1,17 +1,10 @@
 -- When the output of a net settles: every used input has exactly one way to it and no other input has any, and a gate settles one delay after
 -- the later of the two that it joins.
 -- Assumes nothing.
-use Prim.Native.Nat.{ℕ, suc, _+_, _-_, _*_, _≤_, _<_, max}
-use mathlib.Core.Path.{_≡_, refl, sym, ap, ap₂, _∙_}
-use mathlib.Core.Bool.{Bool, true, false}
-use mathlib.Core.Logic.{⊎-elim}
-use mathlib.Core.List.{List, [], _∷_, _++_, map, map-map, List·Memᴰ, List·Memᴰ·head, List·Memᴰ·append-cases, List·Memᴰ·not-nil, Memᴰ·append-left}
-use mathlib.Core.List.{Memᴰ·append-right, Memᴰ·map, Memᴰ·of-map, List·Memᴰ·eq-of-singleton}
-use native.Mathlib.Nat.{add-comm, mul-suc, max-zero, le-antisymm}
-use native.Mathlib.Omega.{arith, max-cases}
-use lib.ListN.{length, getD, length-append, length-map}
-use lib.Dec.{eqb}
-use borrow.Author.Tests.{eq-eqb, eqb-true}
+use Rattle.laws.specs.Prelude.{ℕ, _<_, _≤_, _+_, _-_, suc, _*_, max, _≡_, _∙_, sym, ap, refl, ap₂, ⊎-elim, true, false, Bool, List, [], _∷_, _++_, map}
+use Rattle.laws.specs.Prelude.{List·Memᴰ, List·Memᴰ·head, List·Memᴰ·not-nil, List·Memᴰ·append-cases, map-map, List·Memᴰ·eq-of-singleton, Memᴰ·append-right}
+use Rattle.laws.specs.Prelude.{Memᴰ·append-left, Memᴰ·of-map, Memᴰ·map, add-comm, le-antisymm, mul-suc, max-zero, arith, max-cases, eqb, length, getD}
+use Rattle.laws.specs.Prelude.{length-append, length-map, eq-eqb, eqb-true}
 use Rattle.rules.specs.Lists.{range, any}
 use Rattle.rules.specs.Sheets.Sheets.{Gate, usedBy}
 use Rattle.rules.specs.Groups.Groups.{member}

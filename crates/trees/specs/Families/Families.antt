@@ -1,15 +1,8 @@
 -- The numbers below a group's count and the normal wirings of the group whose groups all have mark 2 correspond one to one: the wiring of a number,
 -- and the number of a wiring. Marks are any list here.
 -- Assumes nothing.
-use Prim.Native.Nat.{ℕ, zero, suc, _+_, _-_, _*_, _/_, _%_, _^_, _≤_, _<_}
-use mathlib.Core.Path.{_≡_, refl, sym, _∙_, ap, ap₂}
-use mathlib.Core.Logic.{_≢_}
-use mathlib.Core.List.{List}
-use native.Mathlib.Nat.{div-lt-iff-lt-mul, mod-lt, div-add-mod', mul-zero}
-use native.Mathlib.Omega.{arith}
-use native.Mathlib.Decide.{ℕ-discrete}
-use lib.Arith.{digits-lt, digits-div, digits-mod}
-use borrow.Author.Tests.{ne-eqb}
+use Rattle.laws.specs.Prelude.{ℕ, _<_, _≤_, _+_, _-_, _^_, suc, _*_, zero, _%_, _/_, _≡_, _∙_, sym, ap, refl, ap₂, _≢_, List, mod-lt, div-lt-iff-lt-mul}
+use Rattle.laws.specs.Prelude.{div-add-mod', mul-zero, ℕ-discrete, arith, ne-eqb, digits-lt, digits-mod, digits-div}
 use Rattle.rules.specs.Sheets.SheetRules.{Distinct}
 use Rattle.rules.specs.Groups.Groups.{size}
 use Rattle.rules.specs.Groups.Marks.{markIn}

@@ -1,17 +1,9 @@
 -- Every count fits into 64 bits: a group of k members has at most (2k − 3)!! trees, for k up to the most inputs that a sheet may have. For each size
 -- of A, the group has as many splits as there are ways to choose the other members of A.
 -- Assumes nothing.
-use Prim.Native.Nat.{ℕ, zero, suc, _+_, _-_, _*_, _/_, _%_, _^_, _≤_, _<_}
-use mathlib.Core.Path.{_≡_, refl, sym, ap, ap₂, _∙_}
-use mathlib.Core.Logic.{_≢_}
-use mathlib.Core.Bool.{Bool, true, false, not, cond, _&&_, _||_, and-true, and-false}
-use mathlib.Core.List.{List, [], _∷_, map}
-use native.Mathlib.Nat.{mul-le-mul, add-zero, zero-add}
-use native.Mathlib.Omega.{arith}
-use native.Mathlib.Decide.{ℕ-discrete, decLt}
-use lib.ListN.{length, List·getD-eq-default}
-use lib.Dec.{leb, ltb}
-use borrow.Author.Tests.{leb-true, ltb-true}
+use Rattle.laws.specs.Prelude.{ℕ, _<_, _≤_, _+_, _-_, _^_, suc, _*_, zero, _%_, _/_, _≡_, _∙_, sym, ap, refl, ap₂, _≢_, true, false, Bool, _&&_, not, cond}
+use Rattle.laws.specs.Prelude.{_||_, and-false, and-true, List, [], _∷_, map, zero-add, add-zero, mul-le-mul, decLt, ℕ-discrete, arith, ltb, leb, length}
+use Rattle.laws.specs.Prelude.{List·getD-eq-default, leb-true, ltb-true}
 use Rattle.rules.specs.Lists.{range, all, those, total}
 use Rattle.rules.specs.Limits.{mostInputs}
 use Rattle.rules.specs.Groups.Groups.{member, size}

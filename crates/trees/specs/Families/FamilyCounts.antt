@@ -1,17 +1,7 @@
 -- The computed list of counts: a group's count comes from its splits, and a split's from its two groups.
 -- Assumes nothing.
-use Prim.Native.Nat.{ℕ, zero, suc, _+_, _-_, _^_, _≤_, _<_}
-use mathlib.Core.Path.{_≡_, refl, sym, _∙_, ap}
-use mathlib.Core.Logic.{_≢_}
-use mathlib.Core.Bool.{Bool, true, false, and-eq-true-iff}
-use mathlib.Core.List.{List, [], _++_, map, List·Memᴰ}
-use native.Mathlib.Omega.{arith}
-use native.Mathlib.Numerals.{add-one}
-use native.Mathlib.Decide.{ℕ-discrete}
-use lib.ListN.{length, length-append, List·getD-append}
-use lib.Seq.{getD-at}
-use lib.Dec.{eqb}
-use borrow.Author.Tests.{ne-eqb}
+use Rattle.laws.specs.Prelude.{ℕ, _<_, _≤_, _+_, _-_, _^_, suc, zero, _≡_, _∙_, sym, ap, refl, _≢_, true, false, Bool, and-eq-true-iff, List, [], _++_}
+use Rattle.laws.specs.Prelude.{map, List·Memᴰ, add-one, ℕ-discrete, arith, eqb, length, length-append, List·getD-append, getD-at, ne-eqb}
 use Rattle.rules.specs.Lists.{range, those, total}
 use Rattle.rules.specs.Groups.Groups.{member, size}
 use Rattle.rules.specs.Groups.Marks.{markIn, partsAt}

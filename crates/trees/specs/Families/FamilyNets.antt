@@ -3,10 +3,7 @@
 -- different numbers are different wirings; and each net on just the leaves that computes the table is one wiring with the net of exactly one number.
 -- The count is 0 exactly if no net computes the table, whatever its leaves.
 -- Assumes nothing.
-use Prim.Native.Nat.{ℕ, _^_, _<_}
-use mathlib.Core.Path.{_≡_, sym, ap, _∙_, subst, subst⁻¹}
-use mathlib.Core.Logic.{_↔_}
-use mathlib.Core.List.{List, List·Memᴰ}
+use Rattle.laws.specs.Prelude.{ℕ, _<_, _^_, _≡_, _∙_, sym, ap, subst, subst⁻¹, _↔_, List, List·Memᴰ}
 use Rattle.rules.specs.Sheets.Sheets.{Gate}
 use Rattle.rules.specs.Groups.Marks.{marksOf}
 use Rattle.rules.specs.Nets.Wirings.{Wiring, groupOf, linksOf}

@@ -1,13 +1,8 @@
 -- The family of a table: a group's numbers below its count, and the group's wirings with few classes at each gate, up to sides. A group has
 -- count 0 exactly if its mark is not 2, and its number 0 is the settled wiring.
 -- Assumes nothing.
-use Prim.Native.Nat.{ℕ, zero, suc, _-_, _^_, _<_}
-use mathlib.Core.Path.{_≡_, refl, sym, _∙_, ap, ap₂}
-use mathlib.Core.Logic.{_≢_, _↔_, ⊎-elim}
-use native.Mathlib.Nat.{mul-pos, zero-div, zero-mod}
-use native.Mathlib.Omega.{arith}
-use native.Mathlib.Decide.{ℕ-discrete}
-use borrow.Author.Tests.{ne-eqb}
+use Rattle.laws.specs.Prelude.{ℕ, _<_, _-_, _^_, suc, zero, _≡_, _∙_, sym, ap, refl, ap₂, _↔_, _≢_, ⊎-elim, zero-div, mul-pos, zero-mod, ℕ-discrete, arith}
+use Rattle.laws.specs.Prelude.{ne-eqb}
 use Rattle.rules.specs.Groups.Groups.{size}
 use Rattle.rules.specs.Groups.Marks.{marksOf}
 use Rattle.rules.specs.Nets.Wirings.{Wiring, input, gate, groupOf, firstInput, wiringBy}

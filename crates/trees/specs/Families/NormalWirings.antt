@@ -1,15 +1,9 @@
 -- A wiring is determined, up to which side is left, by its leaves and by the groups that its gates join. Its normal form has the first-listed input
 -- of every gate's group on the left.
 -- Assumes nothing.
-use Prim.Native.Nat.{ℕ, _+_, _^_, _<_}
-use mathlib.Core.Path.{_≡_, refl, sym, ap, ap₂, _∙_, subst, subst⁻¹}
-use mathlib.Core.Logic.{_↔_, _⊎_, inl, inr, ⊎-elim}
-use mathlib.Core.Bool.{Bool, true, false, _&&_, true≢false}
-use mathlib.Core.List.{List, [], _∷_, _++_, List·Memᴰ, List·Memᴰ·head, List·Memᴰ·append-cases, List·Memᴰ·eq-of-singleton, List·Memᴰ·not-nil}
-use mathlib.Core.List.{Memᴰ·append-left, Memᴰ·append-right}
-use native.Mathlib.Nat.{add-comm}
-use native.Mathlib.Omega.{arith}
-use borrow.Author.Tests.{eqb-true}
+use Rattle.laws.specs.Prelude.{ℕ, _<_, _+_, _^_, _≡_, _∙_, sym, ap, refl, subst, ap₂, subst⁻¹, _↔_, ⊎-elim, _⊎_, inl, inr, true, false, Bool, _&&_}
+use Rattle.laws.specs.Prelude.{true≢false, List, [], _∷_, _++_, List·Memᴰ, List·Memᴰ·head, List·Memᴰ·not-nil, List·Memᴰ·append-cases}
+use Rattle.laws.specs.Prelude.{List·Memᴰ·eq-of-singleton, Memᴰ·append-right, Memᴰ·append-left, add-comm, arith, eqb-true}
 use Rattle.rules.specs.Groups.Groups.{member}
 use Rattle.rules.specs.Groups.Marks.{inside}
 use Rattle.rules.specs.Nets.Trees.{Turned, same-input, straight, crossed, EachOnce}

@@ -1,14 +1,8 @@
 -- What the wire of a group carries: its only input's level, or its class. It is below m if the group has at most m classes,
 -- depends only on the levels of the group's members, and determines the ink.
 -- Assumes nothing.
-use Prim.Native.Nat.{ℕ, _^_, _<_}
-use mathlib.Core.Path.{_≡_, refl, sym, _∙_, ap, subst, subst⁻¹}
-use mathlib.Core.Logic.{_≢_}
-use mathlib.Core.Bool.{Bool, true, false}
-use native.Mathlib.Nat.{lt-of-lt-of-le}
-use lib.Dec.{eqb}
-use lib.Pow.{pow-pos}
-use borrow.Author.Tests.{eqb-true, eqb-false, eq-eqb, ne-eqb}
+use Rattle.laws.specs.Prelude.{ℕ, _<_, _^_, _≡_, _∙_, sym, ap, refl, subst, subst⁻¹, _≢_, true, false, Bool, lt-of-lt-of-le, eqb, eq-eqb, eqb-true, ne-eqb}
+use Rattle.laws.specs.Prelude.{eqb-false, pow-pos}
 use Rattle.rules.specs.Sheets.Sheets.{level}
 use Rattle.rules.specs.Groups.Groups.{size, part}
 use Rattle.rules.specs.Nets.Wirings.{firstInput}

@@ -1,16 +1,8 @@
 -- In a wiring filled by the class rule, the value of every reference before the last gate is what its wire carries: an input's level, or the class of
 -- a gate's group.
 -- Assumes nothing.
-use Prim.Native.Nat.{ℕ, _+_, _-_, _<_}
-use mathlib.Core.Path.{_≡_, sym, ap, _∙_}
-use mathlib.Core.Bool.{Bool, false}
-use mathlib.Core.List.{List, [], _∷_, _++_}
-use native.Mathlib.Nat.{zero-add}
-use native.Mathlib.Decide.{decLt}
-use native.Mathlib.Omega.{arith}
-use lib.ListN.{length, getD, List·getD-append}
-use lib.Seq.{getD-append-seam}
-use lib.Dec.{eqb·suc-zero}
+use Rattle.laws.specs.Prelude.{ℕ, _<_, _+_, _-_, _≡_, _∙_, sym, ap, false, Bool, List, [], _∷_, _++_, zero-add, decLt, arith, eqb·suc-zero, length, getD}
+use Rattle.laws.specs.Prelude.{List·getD-append, getD-append-seam}
 use Rattle.rules.specs.Sheets.Sheets.{Gate, level, levelsAt}
 use Rattle.rules.specs.Nets.Value.{gateValue}
 use Rattle.rules.specs.Nets.Wirings.{Link}

@@ -1,15 +1,8 @@
 -- The rule for a gate's digits, of document 01, section 'The settled net': "A gate below the last gives its group's classes .. The last
 -- gate gives the ink. A digit that no assignment reaches is 0." For any two groups that a gate may join.
 -- Assumes nothing.
-use Prim.Native.Nat.{ℕ, _+_, _*_, _/_, _%_, _^_, _<_}
-use mathlib.Core.Path.{_≡_, refl, sym, _∙_, ap, ap₂, subst}
-use mathlib.Core.Logic.{_≢_}
-use mathlib.Core.Bool.{Bool, true, false}
-use mathlib.Core.List.{List}
-use native.Mathlib.Nat.{lt-of-lt-of-le, mod-lt, div-add-mod', div-lt-iff-lt-mul}
-use native.Mathlib.Omega.{arith}
-use lib.ListN.{length, getD}
-use lib.Seq.{ext-getD}
+use Rattle.laws.specs.Prelude.{ℕ, _<_, _+_, _^_, _*_, _%_, _/_, _≡_, _∙_, sym, ap, refl, subst, ap₂, _≢_, true, false, Bool, List, mod-lt, lt-of-lt-of-le}
+use Rattle.laws.specs.Prelude.{div-lt-iff-lt-mul, div-add-mod', arith, length, getD, ext-getD}
 use Rattle.rules.specs.Groups.Groups.{part, points, size}
 use Rattle.rules.specs.Nets.Filling.{carried, given, gateDigits}
 use Rattle.rules.specs.Sheets.SheetRules.{GateTable}

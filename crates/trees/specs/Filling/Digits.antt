@@ -1,13 +1,7 @@
 -- The digits of a gate by the class rule, over any two groups: how many, and what each is.
 -- Assumes nothing.
-use Prim.Native.Nat.{ℕ, _+_, _*_, _/_, _%_, _<_}
-use mathlib.Core.Path.{_≡_, refl, sym, _∙_, ap, subst}
-use mathlib.Core.Logic.{_⊎_, inl, inr}
-use mathlib.Core.Bool.{Bool, true, false, _&&_, false≢true}
-use mathlib.Core.List.{List, [], _∷_, map, List·Memᴰ, List·Memᴰ·not-nil, List·Memᴰ·cases-cons}
-use native.Mathlib.Nat.{mod-lt, div-add-mod', div-lt-iff-lt-mul}
-use lib.Dec.{eqb}
-use lib.ListN.{length, getD}
+use Rattle.laws.specs.Prelude.{ℕ, _<_, _+_, _*_, _%_, _/_, _≡_, _∙_, sym, ap, refl, subst, _⊎_, inl, inr, true, false, Bool, _&&_, false≢true, List, []}
+use Rattle.laws.specs.Prelude.{_∷_, map, List·Memᴰ, List·Memᴰ·not-nil, List·Memᴰ·cases-cons, mod-lt, div-lt-iff-lt-mul, div-add-mod', eqb, length, getD}
 use Rattle.rules.specs.Lists.{find}
 use Rattle.rules.specs.Groups.Groups.{points}
 use Rattle.rules.specs.Nets.Filling.{carried, given, FillingReached, digitAt, gateDigits}

@@ -1,16 +1,8 @@
 -- The links of a wiring, filled by the class rule: the group of each reference is that of the wiring it refers to, so the filling is
 -- the wiring's gate list, which follows the rules of a net sheet and has the tree's value. Also, what a list of links needs in order to be filled.
 -- Assumes nothing.
-use Prim.Native.Nat.{ℕ, _+_, _^_, _<_}
-use native.Mathlib.Nat.{add-zero, zero-add}
-use native.Mathlib.Omega.{arith}
-use mathlib.Core.Path.{_≡_, refl, sym, ap, ap₂, _∙_}
-use mathlib.Core.Bool.{Bool, true, false}
-use mathlib.Core.List.{List, [], _∷_, _++_, append-assoc, append-nil}
-use lib.ListN.{length, getD, length-append}
-use lib.Seq.{getD-append-seam}
-use lib.Dec.{eqb}
-use borrow.Author.Tests.{ne-eqb}
+use Rattle.laws.specs.Prelude.{ℕ, _<_, _+_, _^_, _≡_, _∙_, sym, ap, refl, ap₂, true, false, Bool, List, [], _∷_, _++_, append-assoc, append-nil, zero-add}
+use Rattle.laws.specs.Prelude.{add-zero, arith, eqb, length, getD, length-append, getD-append-seam, ne-eqb}
 use Rattle.rules.specs.Lists.{withEach}
 use Rattle.rules.specs.Sheets.Sheets.{Gate}
 use Rattle.rules.specs.Nets.Value.{value}
@@ -94,8 +86,13 @@ module _ (n : ℕ) where
       let left = left-kept before groups a b (once .1) grouped ∙ group-at-reference before groups a (once .1) grouped in
       let right = group-at-reference mid (groupsAfter groups before a) b (once .2) after-a in
       let own : n + before + gatesIn a + gatesIn b ≡ length (groupsBelow groups before a b) = omega arith in
-      rw (with-each-append linkGroup groups (linksOf n before a ++ linksOf n mid b) (ownLink before a b ∷ []), with-each-append linkGroup groups (linksOf n before a) (linksOf n mid b), own)
-      (getD-append-seam (groupsBelow groups before a b) (linkGroup (groupsBelow groups before a b) (ownLink before a b)) [] 0 ∙ ap₂ (λ (x y : ℕ). x + y) left right)
+      rw (
+        with-each-append linkGroup groups (linksOf n before a ++ linksOf n mid b) (ownLink before a b ∷ []),
+        with-each-append linkGroup groups (linksOf n before a) (linksOf n mid b),
+        own,
+      )
+      (getD-append-seam (groupsBelow groups before a b) (linkGroup (groupsBelow groups before a b) (ownLink before a b)) [] 0
+      ∙ ap₂ (λ (x y : ℕ). x + y) left right)
 
   -- the same for both sides of a gate
   module _ (before : ℕ) (groups : List ℕ) (a b : Wiring) (once : EachOnce n (gate a b)) (grouped : Grouped before groups) where
@@ -156,7 +153,8 @@ module _ (m n : ℕ) (f : ℕ → ℕ) where
           ap₂ (λ (x y : ℕ). record { left = own .left; right = own .right; digits = gateDigits m n f last x y } ∷ next)
           (left-group n before groups a b once grouped) (right-group n before groups a b once grouped)
           ∙ ap (λ (gs : List ℕ). line ∷ filledFrom m n f gs rest)
-          (sym (with-each-append linkGroup groups (of-a ++ of-b) (own ∷ []) ∙ ap (λ (gs : List ℕ). withGroups gs (own ∷ [])) (with-each-append linkGroup groups of-a of-b)))
+          (sym (with-each-append linkGroup groups (of-a ++ of-b) (own ∷ [])
+          ∙ ap (λ (gs : List ℕ). withGroups gs (own ∷ [])) (with-each-append linkGroup groups of-a of-b)))
 
   -- a wiring's links filled are its gate list
   pub filled-list : (w : Wiring) → EachOnce n w → filled m n f (linksOf n 0 w) ≡ gateList m n f true 0 w

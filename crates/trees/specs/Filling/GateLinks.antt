@@ -1,13 +1,8 @@
 -- The links of any gate list that follows the rules of a net sheet, in its own line order and with its own sides, can be filled if each
 -- gate's group has at most m classes.
 -- Assumes nothing.
-use Prim.Native.Nat.{ℕ, suc, _+_, _-_, _<_}
-use mathlib.Core.Path.{_≡_, sym, ap, ap₂, _∙_, subst, subst⁻¹}
-use mathlib.Core.List.{List, [], _∷_, _++_, map, map-map, append-assoc}
-use native.Mathlib.Decide.{decLt}
-use native.Mathlib.Omega.{arith}
-use lib.ListN.{length, getD, length-map, List·getD-append}
-use lib.Seq.{getD-append-seam}
+use Rattle.laws.specs.Prelude.{ℕ, _<_, _+_, _-_, suc, _≡_, _∙_, sym, ap, subst, ap₂, subst⁻¹, List, [], _∷_, _++_, map, append-assoc, map-map, decLt}
+use Rattle.laws.specs.Prelude.{arith, length, getD, length-map, List·getD-append, getD-append-seam}
 use Rattle.rules.specs.Lists.{range, withEach}
 use Rattle.rules.specs.Sheets.Sheets.{Gate, usedBy}
 use Rattle.rules.specs.Nets.Wirings.{groupOf, Link}

@@ -2,15 +2,8 @@
 -- (A, B), both of mark 2, A holding its first-listed input, A of lowest number."; classes are "numbered from 0 in the order in which
 -- they first appear as the group's assignments are counted, first-listed member slowest".
 -- Assumes nothing.
-use Prim.Native.Nat.{ℕ, _-_, _^_, _≤_, _<_}
-use mathlib.Core.Path.{_≡_, sym, ap, _∙_}
-use mathlib.Core.Logic.{_≢_, ⊎-elim}
-use mathlib.Core.Bool.{true, and-eq-true-iff, true≢false}
-use mathlib.Core.List.{List·Memᴰ}
-use native.Mathlib.Nat.{le-of-lt, le-of-eq}
-use native.Mathlib.Decide.{decLt}
-use native.Mathlib.Omega.{arith}
-use lib.ListN.{length, getD}
+use Rattle.laws.specs.Prelude.{ℕ, _<_, _≤_, _-_, _^_, _≡_, _∙_, sym, ap, _≢_, ⊎-elim, true, true≢false, and-eq-true-iff, List·Memᴰ, le-of-eq, le-of-lt}
+use Rattle.laws.specs.Prelude.{decLt, arith, length, getD}
 use Rattle.rules.specs.Lists.{firstPlace}
 use Rattle.rules.specs.Groups.Groups.{size, points, alike, classes, multiplicity}
 use Rattle.rules.specs.Groups.Marks.{marksOf}

@@ -1,9 +1,6 @@
 -- Alike, as a statement and as the test that document 01's definition computes. It is an equivalence relation.
 -- Assumes nothing.
-use Prim.Native.Nat.{ℕ, _+_, _^_, _<_}
-use mathlib.Core.Path.{_≡_, refl, sym, ap, _∙_, _≡⟨_⟩_, _∎}
-use mathlib.Core.Bool.{true}
-use borrow.Author.Tests.{eqb-true, eq-eqb}
+use Rattle.laws.specs.Prelude.{ℕ, _<_, _+_, _^_, _≡_, _∙_, sym, ap, refl, _∎, _≡⟨_⟩_, true, eq-eqb, eqb-true}
 use Rattle.rules.specs.Groups.Groups.{part, points, others, alike, alikeOver}
 use Rattle.laws.specs.Lists.Tests.{all-mem, mem-all}
 use Rattle.trees.specs.Trees.Trees.{Alike, mix}

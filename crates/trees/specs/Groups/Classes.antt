@@ -1,15 +1,7 @@
 -- A group's classes: their numbers, their count, and the two ways to bound it.
 -- Assumes nothing.
-use Prim.Native.Nat.{ℕ, _+_, _^_, _≤_, _<_}
-use mathlib.Core.Path.{_≡_, refl, sym, _∙_}
-use mathlib.Core.Logic.{⊎-elim}
-use mathlib.Core.Bool.{true, true≢false}
-use mathlib.Core.List.{[], List·Memᴰ, List·Memᴰ·not-nil}
-use lib.ListN.{getD}
-use native.Mathlib.Nat.{lt-trans, not-suc-le-zero}
-use native.Mathlib.Decide.{decLt}
-use native.Mathlib.Omega.{arith}
-use borrow.Author.Tests.{eq-eqb}
+use Rattle.laws.specs.Prelude.{ℕ, _<_, _≤_, _+_, _^_, _≡_, _∙_, sym, refl, ⊎-elim, true, true≢false, [], List·Memᴰ, List·Memᴰ·not-nil, not-suc-le-zero}
+use Rattle.laws.specs.Prelude.{lt-trans, decLt, arith, getD, eq-eqb}
 use Rattle.rules.specs.Groups.Groups.{part, points, others, alike, alikeOver, classes, multiplicity}
 use Rattle.rules.specs.Nets.Filling.{classNumber}
 use Rattle.laws.specs.Lists.Tests.{mem-all}

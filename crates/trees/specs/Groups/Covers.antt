@@ -1,15 +1,10 @@
 -- Assignments of a group such that all its assignments are alike to one of them. Any such list bounds its number of classes, and such a list
 -- for the other inputs decides which of its assignments are alike.
 -- Assumes nothing.
-use Prim.Native.Nat.{ℕ, zero, suc, _+_, _-_, _*_, _/_, _%_, _^_, _≤_, _<_}
-use mathlib.Core.Path.{_≡_, refl, sym, ap, ap₂, _∙_, subst, subst⁻¹}
-use mathlib.Core.Bool.{Bool, true, false, cond, _&&_, true≢false}
-use native.Mathlib.Nat.{add-comm, add-zero, zero-add, sub-self, mul-comm, mul-assoc, mul-one, zero-mul, pow-zero, pow-suc, one-le-pow, le-refl}
-use native.Mathlib.Nat.{le-step, mod-lt, mod-eq-of-lt, mul-div-cancel, div-lt-iff-lt-mul}
-use native.Mathlib.Decide.{decLt}
-use native.Mathlib.Omega.{arith}
-use lib.Arith.{digits-lt, digits-div, digits-mod, sub-sub-self}
-use borrow.Author.Tests.{eq-eqb, ne-eqb}
+use Rattle.laws.specs.Prelude.{ℕ, _<_, _≤_, _+_, _-_, _^_, suc, _*_, zero, _%_, _/_, _≡_, _∙_, sym, ap, refl, subst, ap₂, subst⁻¹, true, false, Bool, _&&_}
+use Rattle.laws.specs.Prelude.{true≢false, cond, zero-add, add-zero, zero-mul, pow-suc, pow-zero, mod-lt, div-lt-iff-lt-mul, mul-comm, mul-one, one-le-pow}
+use Rattle.laws.specs.Prelude.{le-refl, mul-assoc, add-comm, le-step, mod-eq-of-lt, mul-div-cancel, sub-self, decLt, arith, eq-eqb, ne-eqb, digits-lt}
+use Rattle.laws.specs.Prelude.{digits-mod, digits-div, sub-sub-self}
 use Rattle.rules.specs.Sheets.Sheets.{level}
 use Rattle.rules.specs.Groups.Groups.{member, part, wholeGroup, others, multiplicity}
 use Rattle.laws.specs.Numbers.Levels.{level-last, level-front}

@@ -1,16 +1,9 @@
 -- Two assignments of a group compared (document 02, K4): the result is `none` exactly if they are alike, and a place exactly if it is the least
 -- at which the inks differ.
 -- Assumes nothing.
-use Prim.Native.Nat.{ℕ, _+_, _-_, _^_, _≤_, _<_}
-use mathlib.Core.Path.{_≡_, refl, sym, ap, _∙_, subst}
-use mathlib.Core.Logic.{_≢_, _↔_}
-use mathlib.Core.Bool.{Bool, true, false, not}
+use Rattle.laws.specs.Prelude.{ℕ, _<_, _≤_, _+_, _-_, _^_, _≡_, _∙_, sym, ap, refl, subst, _↔_, _≢_, true, false, Bool, not, List, ℕ-discrete, arith}
+use Rattle.laws.specs.Prelude.{length, getD, eq-eqb, eqb-true, ne-eqb, eqb-false, not-true}
 use mathlib.Core.Option.{Option, none, some, Option·some-injective, Option·none-ne-some}
-use mathlib.Core.List.{List}
-use native.Mathlib.Decide.{ℕ-discrete}
-use native.Mathlib.Omega.{arith}
-use lib.ListN.{length, getD}
-use borrow.Author.Tests.{eqb-true, eqb-false, eq-eqb, ne-eqb, not-true}
 use Rattle.rules.specs.Groups.Groups.{size, part, points, others, alike, alikeOver}
 use Rattle.rules.specs.Groups.Differences.{differAt, differenceOver, firstDifference}
 use Rattle.laws.specs.Lists.Tests.{all-mem, mem-all}

@@ -1,12 +1,6 @@
 -- "the whole group has as many classes as distinct inks"
 -- Assumes nothing.
-use Prim.Native.Nat.{ℕ, _^_, _<_}
-use mathlib.Core.Path.{_≡_, sym, ap, ap₂, _∙_, fun-ext}
-use mathlib.Core.Bool.{Bool, and-true}
-use mathlib.Core.List.{List, [], _∷_, map}
-use native.Mathlib.Nat.{add-zero, sub-self}
-use lib.ListN.{length, length-map}
-use lib.Dec.{eqb}
+use Rattle.laws.specs.Prelude.{ℕ, _<_, _^_, _≡_, _∙_, sym, ap, ap₂, fun-ext, Bool, and-true, List, [], _∷_, map, add-zero, sub-self, eqb, length, length-map}
 use Rattle.rules.specs.Lists.{range, all}
 use Rattle.rules.specs.Groups.Groups.{wholeGroup, others, points, alikeOver, firsts, classes, multiplicity}
 use Rattle.laws.specs.Lists.Tests.{all-cons}

@@ -1,16 +1,9 @@
 -- What `firsts` keeps of a list, for a test that every element passes against itself: elements of the list; none passes
 -- against an earlier one; and each element passes against one that is kept.
 -- Assumes nothing.
-use Prim.Native.Nat.{ℕ, _<_}
-use mathlib.Core.Path.{_≡_, refl, sym}
-use mathlib.Core.Logic.{_⊎_, inl, inr, ⊎-map}
-use mathlib.Core.Bool.{Bool, true, false}
-use mathlib.Core.List.{List, [], _∷_, _++_, map, map-append, List·Memᴰ, List·Memᴰ·head, List·Memᴰ·tail, List·Memᴰ·not-nil, List·Memᴰ·cases-cons}
-use mathlib.Core.List.{List·Memᴰ·append-cases, List·Memᴰ·eq-of-singleton, Memᴰ·append-left, Memᴰ·append-right}
-use native.Mathlib.Nat.{le-of-suc-le-suc, eq-or-lt-of-le}
-use native.Mathlib.Omega.{arith}
-use lib.ListN.{length, getD, length-append, List·getD-append}
-use lib.Seq.{getD-at}
+use Rattle.laws.specs.Prelude.{ℕ, _<_, _≡_, sym, refl, _⊎_, inl, inr, ⊎-map, true, false, Bool, List, [], _∷_, _++_, map, List·Memᴰ, List·Memᴰ·head}
+use Rattle.laws.specs.Prelude.{List·Memᴰ·not-nil, List·Memᴰ·tail, List·Memᴰ·append-cases, List·Memᴰ·cases-cons, List·Memᴰ·eq-of-singleton, Memᴰ·append-right}
+use Rattle.laws.specs.Prelude.{Memᴰ·append-left, map-append, le-of-suc-le-suc, eq-or-lt-of-le, arith, length, getD, length-append, List·getD-append, getD-at}
 use Rattle.rules.specs.Lists.{any}
 use Rattle.rules.specs.Groups.Groups.{firsts}
 use Rattle.laws.specs.Lists.Tests.{none-mem, mem-any, any-map}
@@ -93,19 +86,6 @@ module _ (same : ℕ → ℕ → Bool) (own : (p : ℕ) → same p p ≡ true) w
           → Keeps same kept (p ∷ ps) (elim b as (λ _. List ℕ) [ true ↦ firsts same kept ps | false ↦ firsts same (kept ++ (p ∷ [])) ps ])
       go true e k _ = passed kept ps _ p e k
       go false e _ k = added kept ps _ p e k
-
--- the rest of a list after what is kept of its front
-pub firsts-append : {A : Type 0} (same : A → A → Bool) (kept ps qs : List A) → firsts same kept (ps ++ qs) ≡ firsts same (firsts same kept ps) qs
-unfolding firsts
-firsts-append same kept [] qs = refl
-firsts-append same kept (p ∷ ps) qs = go (any (same p) kept) (firsts-append same kept ps qs) (firsts-append same (kept ++ (p ∷ [])) ps qs)
-  where
-    go : (b : Bool) → firsts same kept (ps ++ qs) ≡ firsts same (firsts same kept ps) qs
-        → firsts same (kept ++ (p ∷ [])) (ps ++ qs) ≡ firsts same (firsts same (kept ++ (p ∷ [])) ps) qs
-        → elim b as (λ _. List _) [ true ↦ firsts same kept (ps ++ qs) | false ↦ firsts same (kept ++ (p ∷ [])) (ps ++ qs) ]
-        ≡ firsts same (elim b as (λ _. List _) [ true ↦ firsts same kept ps | false ↦ firsts same (kept ++ (p ∷ [])) ps ]) qs
-    go true old new = old
-    go false old new = new
 
 -- for the values of a function: the firsts' values are the values' firsts
 pub firsts-map : {A B : Type 0} (f : A → B) (same : B → B → Bool) (kept ps : List A)

@@ -1,10 +1,7 @@
 -- Two groups that share no input, and their join: the levels of the join determine the levels of each, and a value that determines the ink
 -- over the join determines it over each.
 -- Assumes nothing.
-use Prim.Native.Nat.{ℕ, _+_, _^_, _<_}
-use mathlib.Core.Path.{_≡_, refl, sym, _∙_, ap}
-use mathlib.Core.Bool.{Bool, true, false, and-true, and-comm}
-use native.Mathlib.Nat.{add-comm}
+use Rattle.laws.specs.Prelude.{ℕ, _<_, _+_, _^_, _≡_, _∙_, sym, ap, refl, true, false, Bool, and-true, and-comm, add-comm}
 use Rattle.rules.specs.Groups.Groups.{member, part}
 use Rattle.rules.specs.Sheets.Sheets.{level}
 use Rattle.laws.specs.Lists.Tests.{or-false-iff}

@@ -1,13 +1,9 @@
 -- Indices by their levels: an index below m to the n is determined by its n levels, and `mix` takes each level from one of two indices.
 -- Assumes nothing.
-use Prim.Native.Nat.{ℕ, zero, suc, _+_, _*_, _/_, _%_, _^_, _<_}
-use mathlib.Core.Path.{_≡_, refl, sym, ap, _∙_}
-use mathlib.Core.Logic.{_⊎_, inl, inr}
-use mathlib.Core.Bool.{Bool, true, false, not, cond, _&&_, _||_, true≢false}
-use native.Mathlib.Nat.{pow-zero, pow-suc, div-lt-iff-lt-mul, div-add-mod', mod-lt, zero-div, zero-mod, zero-mul, add-zero, zero-add, eq-or-lt-of-le}
-use native.Mathlib.Nat.{le-of-suc-le-suc, not-suc-le-zero, one-le-pow, le-step, le-refl}
-use native.Mathlib.Omega.{arith}
-use lib.Arith.{digits-lt, digits-div, digits-mod, lt-one}
+use Rattle.laws.specs.Prelude.{ℕ, _<_, _+_, _^_, suc, _*_, zero, _%_, _/_, _≡_, _∙_, sym, ap, refl, _⊎_, inl, inr, true, false, Bool, _&&_, not}
+use Rattle.laws.specs.Prelude.{true≢false, cond, _||_, zero-add, add-zero, zero-mul, pow-suc, pow-zero, mod-lt, div-lt-iff-lt-mul, div-add-mod'}
+use Rattle.laws.specs.Prelude.{one-le-pow, le-refl, le-of-suc-le-suc, not-suc-le-zero, le-step, zero-div, eq-or-lt-of-le, zero-mod, arith, digits-lt}
+use Rattle.laws.specs.Prelude.{digits-mod, digits-div, lt-one}
 use Rattle.rules.specs.Sheets.Sheets.{level}
 use Rattle.rules.specs.Groups.Groups.{member, part, others, wholeGroup}
 use Rattle.laws.specs.Numbers.Levels.{level-last, level-front}

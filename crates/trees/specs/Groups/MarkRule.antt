@@ -1,17 +1,8 @@
 -- The computed list of marks follows document 01's three-way rule at every group.
 -- Assumes nothing.
-use Prim.Native.Nat.{ℕ, zero, suc, _+_, _-_, _^_, _≤_, _<_}
-use mathlib.Core.Path.{_≡_, refl, sym, _∙_, ap}
-use mathlib.Core.Logic.{_≢_, _⊎_, inl, inr, ⊎-elim}
-use mathlib.Core.Bool.{Bool, true, false, not, _||_, and-eq-true-iff, true≢false}
-use mathlib.Core.List.{List, [], List·Memᴰ}
-use native.Mathlib.Omega.{arith}
-use native.Mathlib.Numerals.{add-one}
-use native.Mathlib.Decide.{ℕ-discrete}
-use lib.ListN.{length, length-append, List·getD-append}
-use lib.Seq.{getD-at}
-use lib.Dec.{eqb, leb}
-use borrow.Author.Tests.{eqb-true, eqb-false, leb-true, leb-false}
+use Rattle.laws.specs.Prelude.{ℕ, _<_, _≤_, _+_, _-_, _^_, suc, zero, _≡_, _∙_, sym, ap, refl, _≢_, ⊎-elim, _⊎_, inl, inr, true, false, Bool, not}
+use Rattle.laws.specs.Prelude.{true≢false, and-eq-true-iff, _||_, List, [], List·Memᴰ, add-one, ℕ-discrete, arith, eqb, leb, length, length-append}
+use Rattle.laws.specs.Prelude.{List·getD-append, getD-at, eqb-true, eqb-false, leb-true, leb-false}
 use Rattle.rules.specs.Lists.{range, any}
 use Rattle.rules.specs.Sheets.Sheets.{level}
 use Rattle.rules.specs.Groups.Groups.{member, size, multiplicity}

@@ -1,12 +1,8 @@
 -- Groups as sets: a group's number, its members and its size.
 -- Assumes nothing.
-use Prim.Native.Nat.{ℕ, zero, suc, _+_, _-_, _/_, _%_, _^_, _≤_, _<_}
-use native.Mathlib.Nat.{div-one, zero-div, div-div-eq-div-mul, pow-succ'}
-use native.Mathlib.Omega.{arith}
-use mathlib.Core.Path.{_≡_, refl, sym, ap, ap₂, _∙_}
-use mathlib.Core.Bool.{Bool, true, false, not, _&&_, _||_, false≢true, and-false}
-use lib.Dec.{eqb, eqb·zero-suc, eqb·suc-zero, eqb·suc-suc}
-use lib.Pow.{pow-pos, pow-lt}
+use Rattle.laws.specs.Prelude.{ℕ, _<_, _≤_, _+_, _-_, _^_, suc, zero, _%_, _/_, _≡_, _∙_, sym, ap, refl, ap₂, true, false, Bool, _&&_, not, _||_}
+use Rattle.laws.specs.Prelude.{false≢true, and-false, pow-succ', zero-div, div-div-eq-div-mul, div-one, arith, eqb, eqb·suc-zero, eqb·suc-suc}
+use Rattle.laws.specs.Prelude.{eqb·zero-suc, pow-pos, pow-lt}
 use Rattle.rules.specs.Lists.{range, those}
 use Rattle.rules.specs.Groups.Groups.{member, size, wholeGroup, others}
 use Rattle.rules.specs.Groups.Marks.{inside}

@@ -1,17 +1,10 @@
 -- The list of a group's assignments.
 -- Assumes nothing.
-use Prim.Native.Nat.{ℕ, zero, suc, _+_, _-_, _*_, _/_, _%_, _^_, _≤_, _<_}
-use mathlib.Core.Path.{_≡_, refl, sym, ap, fun-ext, _∙_}
-use mathlib.Core.Logic.{_⊎_, inl, inr}
-use mathlib.Core.Bool.{Bool, true, false, cond}
-use mathlib.Core.List.{List, [], _∷_, _++_, List·Memᴰ, List·Memᴰ·head, List·Memᴰ·tail, List·Memᴰ·not-nil, List·Memᴰ·append-cases}
-use mathlib.Core.List.{List·Memᴰ·eq-of-singleton, map}
-use native.Mathlib.Nat.{add-zero, zero-add, zero-mul, suc-mul, le-refl, le-step, pow-zero, pow-suc, mod-lt, not-suc-le-zero, le-of-suc-le-suc}
-use native.Mathlib.Nat.{le-add-right, add-lt-add-of-le-of-lt, div-add-mod', lt-of-lt-of-le, div-lt-iff-lt-mul, div-mul-le-self, one-mul, add-comm}
-use native.Mathlib.Omega.{arith}
-use lib.ListN.{length, getD}
-use lib.Arith.{digits-div, digits-mod}
-use lib.Pow.{pow-add}
+use Rattle.laws.specs.Prelude.{ℕ, _<_, _≤_, _+_, _-_, _^_, suc, _*_, zero, _%_, _/_, _≡_, _∙_, sym, ap, refl, fun-ext, _⊎_, inl, inr, true, false, Bool}
+use Rattle.laws.specs.Prelude.{cond, List, [], _∷_, _++_, map, List·Memᴰ, List·Memᴰ·head, List·Memᴰ·not-nil, List·Memᴰ·tail, List·Memᴰ·append-cases}
+use Rattle.laws.specs.Prelude.{List·Memᴰ·eq-of-singleton, zero-add, add-zero, zero-mul, pow-suc, suc-mul, pow-zero, mod-lt, lt-of-lt-of-le}
+use Rattle.laws.specs.Prelude.{div-lt-iff-lt-mul, div-add-mod', le-refl, one-mul, add-comm, le-of-suc-le-suc, not-suc-le-zero, le-step}
+use Rattle.laws.specs.Prelude.{add-lt-add-of-le-of-lt, div-mul-le-self, le-add-right, arith, length, getD, digits-mod, digits-div, pow-add}
 use Rattle.rules.specs.Groups.Groups.{member, part, points, size, wholeGroup}
 use Rattle.rules.specs.Lists.{range, concatMap, those}
 use Rattle.laws.specs.Lists.Places.{mem-getD}

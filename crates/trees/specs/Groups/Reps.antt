@@ -1,16 +1,8 @@
 -- Representatives: assignments that cover a group, no two of them alike. There are as many as classes. Given rows that cover the group and columns
 -- that cover the other inputs, the first row of each class is such a list.
 -- Assumes nothing.
-use Prim.Native.Nat.{ℕ, _+_, _^_, _<_}
-use mathlib.Core.Path.{_≡_, refl, sym, _∙_}
-use mathlib.Core.Logic.{_⊎_, inl, inr}
-use mathlib.Core.Bool.{true, true≢false}
-use mathlib.Core.List.{List, [], List·Memᴰ, List·Memᴰ·not-nil}
-use native.Mathlib.Nat.{le-antisymm, not-suc-le-zero}
-use native.Mathlib.Omega.{arith}
-use lib.Dec.{eqb}
-use lib.ListN.{length, getD}
-use borrow.Author.Tests.{eqb-true, eq-eqb}
+use Rattle.laws.specs.Prelude.{ℕ, _<_, _+_, _^_, _≡_, _∙_, sym, refl, _⊎_, inl, inr, true, true≢false, List, [], List·Memᴰ, List·Memᴰ·not-nil}
+use Rattle.laws.specs.Prelude.{not-suc-le-zero, le-antisymm, arith, eqb, length, getD, eq-eqb, eqb-true}
 use Rattle.rules.specs.Groups.Groups.{part, others, alike, alikeOver, firsts, multiplicity}
 use Rattle.rules.specs.Nets.Filling.{classNumber}
 use Rattle.laws.specs.Lists.Tests.{two-ways, all-mem, mem-all}

@@ -1,10 +1,7 @@
 -- Two tests that agree on a list give the same results on it: whether all pass, where the first passes, and the first of each class.
 -- Assumes nothing.
-use Prim.Native.Nat.{suc}
-use mathlib.Core.Path.{_≡_, refl, ap, subst⁻¹}
-use mathlib.Core.Logic.{⊎-elim}
-use mathlib.Core.Bool.{Bool, true, false}
-use mathlib.Core.List.{List, [], _∷_, _++_, List·Memᴰ, List·Memᴰ·head, List·Memᴰ·tail, List·Memᴰ·append-cases, List·Memᴰ·eq-of-singleton}
+use Rattle.laws.specs.Prelude.{suc, _≡_, ap, refl, subst⁻¹, ⊎-elim, true, false, Bool, List, [], _∷_, _++_, List·Memᴰ, List·Memᴰ·head, List·Memᴰ·tail}
+use Rattle.laws.specs.Prelude.{List·Memᴰ·append-cases, List·Memᴰ·eq-of-singleton}
 use Rattle.rules.specs.Lists.{all, any, firstPlace}
 use Rattle.rules.specs.Groups.Groups.{firsts}
 use Rattle.laws.specs.Lists.Tests.{any-same, by-test}

@@ -1,10 +1,7 @@
 -- Rows of a group that differ pairwise at columns which have the same levels at some inputs: the group has at least that many classes, and so does
 -- the group with any of these inputs added. So a larger group is known to have too many classes without reading the cells.
 -- Assumes nothing.
-use Prim.Native.Nat.{ℕ, _+_, _^_, _≤_, _<_}
-use mathlib.Core.Path.{_≡_, refl, sym, ap, _∙_}
-use mathlib.Core.Logic.{_≢_}
-use mathlib.Core.Bool.{Bool, true, false, cond, _||_, true≢false}
+use Rattle.laws.specs.Prelude.{ℕ, _<_, _≤_, _+_, _^_, _≡_, _∙_, sym, ap, refl, _≢_, true, false, Bool, true≢false, cond, _||_}
 use Rattle.rules.specs.Sheets.Sheets.{level}
 use Rattle.rules.specs.Groups.Groups.{member, multiplicity}
 use Rattle.rules.specs.Nets.Filling.{classNumber}

@@ -1,17 +1,8 @@
 -- "the set of the gates whose table field differs from the old one, as the sum of 2 to the power of each one's number" (document 02, K10): bit k of
 -- the sum is gate k's and no other bit is set, so the sum determines exactly these gates.
 -- Assumes nothing.
-use Prim.Native.Nat.{ℕ, zero, suc, _+_, _*_, _/_, _^_, _≤_, _<_}
-use mathlib.Core.Path.{_≡_, refl, sym, ap, _∙_, subst}
-use mathlib.Core.Logic.{_↔_, _≢_}
-use mathlib.Core.Bool.{Bool, true, false, cond, not, true≢false}
-use mathlib.Core.List.{List, []}
-use native.Mathlib.Nat.{zero-add, lt-of-lt-of-le, div-eq-of-lt}
-use native.Mathlib.Decide.{decLt}
-use native.Mathlib.Omega.{arith}
-use lib.ListN.{length}
-use lib.Pow.{pow-pos, pow-mono}
-use borrow.Author.Tests.{not-true}
+use Rattle.laws.specs.Prelude.{ℕ, _<_, _≤_, _+_, _^_, suc, _*_, zero, _/_, _≡_, _∙_, sym, ap, refl, subst, _↔_, _≢_, true, false, Bool, not, true≢false}
+use Rattle.laws.specs.Prelude.{cond, List, [], zero-add, lt-of-lt-of-le, div-eq-of-lt, decLt, arith, length, not-true, pow-mono, pow-pos}
 use Rattle.rules.specs.Lists.{range, those, same, total}
 use Rattle.rules.specs.Sheets.Sheets.{Gate}
 use Rattle.rules.specs.Groups.Groups.{member}

@@ -1,13 +1,7 @@
 -- What depends only on a net's wiring: its references, its gates' groups, and so whether gates with other tables are a net. Filling keeps the wiring.
 -- Assumes nothing.
-use Prim.Native.Nat.{ℕ, zero, suc, _+_, _<_}
-use mathlib.Core.Path.{_≡_, refl, sym, ap, ap₂, _∙_, subst⁻¹}
-use mathlib.Core.List.{List, [], _∷_, _++_, append-assoc, append-nil}
-use native.Mathlib.Nat.{add-zero}
-use native.Mathlib.Omega.{arith}
-use lib.ListN.{length, getD, length-map, List·getD-append}
-use lib.Seq.{getD-append-add, getD-append-seam}
-use lib.Dec.{eqb}
+use Rattle.laws.specs.Prelude.{ℕ, _<_, _+_, suc, _≡_, _∙_, sym, ap, refl, subst⁻¹, List, [], _∷_, _++_, append-assoc, append-nil}
+use Rattle.laws.specs.Prelude.{arith, eqb, length, getD, length-map, getD-append-add}
 use Rattle.rules.specs.Lists.{any, withEach}
 use Rattle.rules.specs.Sheets.Sheets.{Gate, usedBy}
 use Rattle.rules.specs.Nets.Wirings.{Link}
@@ -15,8 +9,6 @@ use Rattle.rules.specs.Nets.Filling.{inputGroups, filledFrom, filled}
 use Rattle.rules.specs.Nets.Family.{groupsFrom, gateGroups}
 use Rattle.rules.specs.Calls.Keeping.{linkOf, gateLinks, keptGates}
 use Rattle.rules.specs.Sheets.SheetRules.{RefersBack, Distinct, Tables, IsNet}
-use Rattle.laws.specs.Lists.Places.{length-snoc}
-use Rattle.laws.specs.Lists.WithEach.{with-each-earlier}
 use Rattle.trees.specs.Filling.Fillings.{linkGroup, withGroups, inputs-grouped}
 use Rattle.trees.specs.Filling.GateGroups.{linkGroups}
 
@@ -105,34 +97,6 @@ module _ (n : ℕ) (gates : List Gate) where
       ∙ ap (λ (gs : List ℕ). getD gs (length (inputGroups n) + k) 0) (behind (inputGroups n) (gateLinks gates))
       ∙ getD-append-add (inputGroups n) (linkGroups (inputGroups n) (gateLinks gates)) k 0
       ∙ ap (λ (gs : List ℕ). getD gs k 0) (sym (from-links (inputGroups n) gates))
-
--- a gate's group is the sum of those of its two references, which come before it
-own-group : (groups : List ℕ) (gates : List Gate) → RefersBack (length groups) gates → (k : ℕ) (d : Gate) → k < length gates
-    → getD (withGroups groups (gateLinks gates)) (length groups + k) 0 ≡ linkGroup (withGroups groups (gateLinks gates)) (linkOf (getD gates k d))
-unfolding withEach
-own-group groups [] back k d h = absurd (omega arith)
-own-group groups (g ∷ gates) back zero d h =
-    let x : ℕ = linkGroup groups (linkOf g) in
-    let more : length (groups ++ (x ∷ [])) ≡ suc (length groups) = length-snoc groups x in
-    let earlier : (r : ℕ) → r < length groups → getD groups r 0 ≡ getD (withGroups (groups ++ (x ∷ [])) (gateLinks gates)) r 0 =
-    λ r l. sym (List·getD-append groups (x ∷ []) 0 r l) ∙ sym (with-each-earlier linkGroup 0 (groups ++ (x ∷ [])) (gateLinks gates) r (omega arith)) in
-    ap (λ (r : ℕ). getD (withGroups (groups ++ (x ∷ [])) (gateLinks gates)) r 0) (add-zero (length groups))
-    ∙ with-each-earlier linkGroup 0 (groups ++ (x ∷ [])) (gateLinks gates) (length groups) (omega arith)
-    ∙ getD-append-seam groups x [] 0
-    ∙ ap₂ (λ (a b : ℕ). a + b) (earlier (g .left) (back .0)) (earlier (g .right) (back .1))
-own-group groups (g ∷ gates) back (suc k) d h =
-    let x : ℕ = linkGroup groups (linkOf g) in
-    let at : length groups + suc k ≡ length (groups ++ (x ∷ [])) + k = omega (arith, length-snoc groups x) in
-    ap (λ (r : ℕ). getD (withGroups (groups ++ (x ∷ [])) (gateLinks gates)) r 0) at
-    ∙ own-group (groups ++ (x ∷ [])) gates (rw length-snoc (back .2)) k d (omega arith)
-
-pub gate-group : (n : ℕ) (gates : List Gate) → RefersBack n gates → (k : ℕ) (d : Gate) → k < length gates
-    → getD (gateGroups n gates) k 0 ≡ linkGroup (withGroups (inputGroups n) (gateLinks gates)) (linkOf (getD gates k d))
-gate-group n gates back k d h =
-    let count : length (inputGroups n) ≡ n = inputs-grouped n .0 ∙ add-zero n in
-    sym (gate-group-at n gates k)
-    ∙ ap (λ (r : ℕ). getD (withGroups (inputGroups n) (gateLinks gates)) (r + k) 0) (sym count)
-    ∙ own-group (inputGroups n) gates (rw count back) k d h
 
 -- two gate lists with the same wiring have the same groups
 pub same-groups : (n : ℕ) (gates others : List Gate) → gateLinks others ≡ gateLinks gates → gateGroups n others ≡ gateGroups n gates

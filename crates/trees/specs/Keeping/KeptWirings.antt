@@ -2,18 +2,9 @@
 -- and its sides, some digits at its gates compute the table exactly if every input that matters is used (document 02, K12) and each gate's group has
 -- at most m classes; in that case the class rule's digits do.
 -- Assumes nothing.
-use Prim.Native.Nat.{ℕ, suc, _+_, _-_, _^_, _≤_, _<_}
-use mathlib.Core.Path.{_≡_, refl, sym, ap, _∙_, subst⁻¹}
-use mathlib.Core.Logic.{_↔_, _⊎_, inl, inr, ⊎-elim}
-use mathlib.Core.Bool.{Bool, true, false, not, _&&_, and-eq-true-iff, true≢false}
-use mathlib.Core.List.{List, [], _∷_, _++_, List·Memᴰ}
-use native.Mathlib.Nat.{lt-of-not-le}
-use native.Mathlib.Decide.{decLt, decLe}
-use native.Mathlib.Omega.{arith}
-use lib.ListN.{length, getD, length-map}
-use lib.Seq.{getD-append-seam}
-use lib.Dec.{eqb, ltb}
-use borrow.Author.Tests.{ltb-true, ltb-false}
+use Rattle.laws.specs.Prelude.{ℕ, _<_, _≤_, _+_, _-_, _^_, suc, _≡_, _∙_, sym, ap, refl, subst⁻¹, _↔_, ⊎-elim, _⊎_, inl, inr, true, false, Bool, _&&_, not}
+use Rattle.laws.specs.Prelude.{true≢false, and-eq-true-iff, List, [], _∷_, _++_, List·Memᴰ, lt-of-not-le, decLt, decLe, arith, eqb, ltb, length, getD}
+use Rattle.laws.specs.Prelude.{length-map, getD-append-seam, ltb-true, ltb-false}
 use Rattle.rules.specs.Lists.{range, any, firstPlace, withEach}
 use Rattle.rules.specs.Sheets.Sheets.{Gate, Net, Table, usedBy, levelsAt}
 use Rattle.rules.specs.Nets.Value.{gateValue, withGates, value, valueWith}

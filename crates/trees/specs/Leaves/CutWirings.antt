@@ -1,16 +1,9 @@
 -- Inputs that do not matter may be cut out of a wiring, or attached to one: they do not change the number of a group's classes. So a group has
 -- mark 2 with them exactly if it has mark 2 without them, and the leaves (document 02, K12) have mark 2 exactly if all inputs together do.
 -- Assumes nothing.
-use Prim.Native.Nat.{ℕ, zero, suc, _+_, _-_, _^_, _≤_, _<_}
-use mathlib.Core.Path.{_≡_, refl, sym, _∙_, ap}
-use mathlib.Core.Logic.{_↔_, by-cases}
-use mathlib.Core.Bool.{Bool, true, false, not, _&&_, _||_, or-false, or-true, and-true, and-false, and-eq-true-iff, and-or-distrib-right, true≢false}
-use native.Mathlib.Nat.{le-antisymm}
-use native.Mathlib.Omega.{arith}
-use native.Mathlib.Decide.{ℕ-discrete}
-use lib.Dec.{eqb}
-use lib.Pow.{pow-pos}
-use borrow.Author.Tests.{eqb-true}
+use Rattle.laws.specs.Prelude.{ℕ, _<_, _≤_, _+_, _-_, _^_, suc, zero, _≡_, _∙_, sym, ap, refl, _↔_, by-cases, true, false, Bool, _&&_, not, true≢false}
+use Rattle.laws.specs.Prelude.{and-eq-true-iff, _||_, and-false, and-true, or-true, or-false, and-or-distrib-right, le-antisymm, ℕ-discrete, arith, eqb}
+use Rattle.laws.specs.Prelude.{eqb-true, pow-pos}
 use Rattle.rules.specs.Sheets.Sheets.{level}
 use Rattle.rules.specs.Groups.Groups.{member, multiplicity, wholeGroup}
 use Rattle.rules.specs.Groups.Marks.{inside, marksOf}

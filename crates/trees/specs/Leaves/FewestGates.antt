@@ -1,13 +1,7 @@
 -- Document 02, K12: "Panel makers now charge extra for a gate that ignores an input." The settled net has one gate fewer than leaves; every leaf
 -- matters if two or more inputs do; and no net that computes the table, whatever its leaves, its wiring and its digits, has fewer gates.
 -- Assumes nothing.
-use Prim.Native.Nat.{ℕ, suc, _^_, _≤_, _<_}
-use mathlib.Core.Path.{_≡_, sym, ap, _∙_}
-use mathlib.Core.List.{List}
-use mathlib.Core.Logic.{by-cases}
-use native.Mathlib.Omega.{arith}
-use native.Mathlib.Decide.{decLt}
-use lib.ListN.{length}
+use Rattle.laws.specs.Prelude.{ℕ, _<_, _≤_, _^_, suc, _≡_, _∙_, sym, ap, by-cases, List, decLt, arith, length}
 use Rattle.rules.specs.Sheets.Sheets.{Gate}
 use Rattle.rules.specs.Groups.Groups.{size, wholeGroup}
 use Rattle.rules.specs.Groups.Marks.{marksOf}

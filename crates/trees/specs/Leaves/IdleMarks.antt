@@ -1,20 +1,13 @@
 -- Idle inputs (document 02, K12) and marks: a group has the mark of the group of its members that matter, and mark 2 if none of them does. So only
 -- groups of inputs that matter need to be marked by document 01's rule.
 -- Assumes nothing.
-use Prim.Native.Nat.{ℕ, _^_, _≤_, _<_}
-use mathlib.Core.Path.{_≡_, refl, sym, _∙_, ap}
-use mathlib.Core.Logic.{by-cases}
-use mathlib.Core.Bool.{Bool, true, false, cond, true≢false}
-use native.Mathlib.Omega.{arith}
-use native.Mathlib.Decide.{decLt}
-use lib.Dec.{eqb}
-use borrow.Author.Tests.{eq-eqb, ne-eqb}
+use Rattle.laws.specs.Prelude.{ℕ, _<_, _≤_, _^_, _≡_, _∙_, sym, ap, refl, by-cases, true, false, Bool, true≢false, cond, decLt, arith, eqb, eq-eqb, ne-eqb}
 use Rattle.rules.specs.Sheets.Sheets.{level}
 use Rattle.rules.specs.Groups.Groups.{member, part, multiplicity}
 use Rattle.rules.specs.Nets.Wirings.{firstInput}
 use Rattle.rules.specs.Nets.Leaves.{matters}
 use Rattle.laws.specs.Lists.Tests.{not-true-false}
-use Rattle.trees.specs.Trees.Trees.{Alike, mix}
+use Rattle.trees.specs.Trees.Trees.{Alike}
 use Rattle.trees.specs.Groups.Members.{member-zero, inside-member, inside-le, single-below, size-single, first-member}
 use Rattle.trees.specs.Groups.Levels.{level-ext, level-part, level-part-in, part-below, mix-self}
 use Rattle.trees.specs.Groups.Classes.{class-below, class-alike}

@@ -1,16 +1,9 @@
 -- The leaves of a table (document 02, K12) as a group: "A settled tree now has just the inputs that matter as leaves; if fewer than two do, the
 -- first-listed others make up two." They are distinct inputs, so the sum of their powers is the group of exactly these inputs.
 -- Assumes nothing.
-use Prim.Native.Nat.{ℕ, zero, suc, _+_, _-_, _^_, _<_, max}
-use mathlib.Core.Path.{_≡_, refl, sym, _∙_, ap, subst}
-use mathlib.Core.Logic.{⊎-elim}
-use mathlib.Core.Bool.{Bool, true, false, not, _&&_, true≢false}
-use mathlib.Core.List.{List, [], _∷_, _++_, map, append-nil, List·Memᴰ, List·Memᴰ·head, List·Memᴰ·tail, List·Memᴰ·append-cases, Memᴰ·append-left}
-use native.Mathlib.Omega.{arith}
-use lib.ListN.{length, take, drop, take-append-drop, length-append, length-take}
-use lib.Dec.{eqb}
-use lib.Pow.{pow-pos}
-use borrow.Author.Tests.{eqb-true, eq-eqb}
+use Rattle.laws.specs.Prelude.{ℕ, _<_, _+_, _-_, _^_, suc, zero, max, _≡_, _∙_, sym, ap, refl, subst, ⊎-elim, true, false, Bool, _&&_, not, true≢false}
+use Rattle.laws.specs.Prelude.{List, [], _∷_, _++_, map, List·Memᴰ, append-nil, List·Memᴰ·head, List·Memᴰ·tail, List·Memᴰ·append-cases, Memᴰ·append-left}
+use Rattle.laws.specs.Prelude.{arith, eqb, length, take, drop, length-append, length-take, take-append-drop, eq-eqb, eqb-true, pow-pos}
 use Rattle.rules.specs.Lists.{range, any, those, total}
 use Rattle.rules.specs.Sheets.SheetRules.{Distinct}
 use Rattle.rules.specs.Groups.Groups.{member, size}

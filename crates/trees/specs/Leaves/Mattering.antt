@@ -1,15 +1,8 @@
 -- What it means that an input matters (document 02, K12): "An input matters when some two assignments differing only there differ in ink." So two
 -- assignments that agree at every input that matters have the same ink, and a group that holds those inputs determines the ink.
 -- Assumes nothing.
-use Prim.Native.Nat.{ℕ, zero, suc, _^_, _≤_, _<_}
-use mathlib.Core.Path.{_≡_, refl, sym, _∙_, ap}
-use mathlib.Core.Logic.{_↔_, _≢_, by-cases}
-use mathlib.Core.Bool.{Bool, true, false, not, true≢false}
-use mathlib.Core.List.{List, List·Memᴰ}
-use native.Mathlib.Omega.{arith}
-use native.Mathlib.Decide.{ℕ-discrete, decLt}
-use lib.ListN.{getD}
-use borrow.Author.Tests.{eqb-false, eq-eqb, ne-eqb}
+use Rattle.laws.specs.Prelude.{ℕ, _<_, _≤_, _^_, suc, zero, _≡_, _∙_, sym, ap, refl, _↔_, _≢_, by-cases, true, false, Bool, not, true≢false, List}
+use Rattle.laws.specs.Prelude.{List·Memᴰ, decLt, ℕ-discrete, arith, getD, eq-eqb, ne-eqb, eqb-false}
 use Rattle.rules.specs.Lists.{any, all, firstPlace}
 use Rattle.rules.specs.Sheets.Sheets.{level}
 use Rattle.rules.specs.Groups.Groups.{member, part, points, others, alike, alikeOver, multiplicity}

@@ -1,17 +1,10 @@
 -- One input of a table: its assignments, and how neighbours decide whether it matters. Two indices are neighbours at an input if they differ only
 -- there, and by one level: their difference is the input's weight.
 -- Assumes nothing.
-use Prim.Native.Nat.{ℕ, zero, suc, _+_, _-_, _*_, _/_, _%_, _^_, _<_}
-use mathlib.Core.Path.{_≡_, refl, sym, ap, _∙_}
-use mathlib.Core.Bool.{Bool, true, false, not, cond}
-use mathlib.Core.List.{List, [], _∷_, map, map-map, append-nil, List·Memᴰ, Memᴰ·of-map}
-use native.Mathlib.Nat.{zero-mul, zero-add, add-zero, mul-one, one-mul, suc-mul, pow-zero, pow-suc, le-refl, le-step, mul-assoc, mul-add-div-right}
-use native.Mathlib.Nat.{one-le-pow, div-add-mod', zero-div, zero-mod}
-use native.Mathlib.Numerals.{add-one}
-use native.Mathlib.Decide.{decLt}
-use native.Mathlib.Omega.{arith}
-use lib.Arith.{digits-mod}
-use borrow.Author.Tests.{eqb-true, eq-eqb, ne-eqb}
+use Rattle.laws.specs.Prelude.{ℕ, _<_, _+_, _-_, _^_, suc, _*_, zero, _%_, _/_, _≡_, _∙_, sym, ap, refl, true, false, Bool, not, cond, List, [], _∷_, map}
+use Rattle.laws.specs.Prelude.{List·Memᴰ, append-nil, map-map, Memᴰ·of-map, zero-add, add-zero, zero-mul, pow-suc, suc-mul, pow-zero, div-add-mod'}
+use Rattle.laws.specs.Prelude.{mul-one, one-le-pow, le-refl, mul-assoc, one-mul, le-step, zero-div, zero-mod, mul-add-div-right, add-one, decLt, arith}
+use Rattle.laws.specs.Prelude.{eq-eqb, eqb-true, ne-eqb, digits-mod}
 use Rattle.rules.specs.Lists.{range, concatMap}
 use Rattle.rules.specs.Sheets.Sheets.{level}
 use Rattle.rules.specs.Groups.Groups.{member, points, part, others, alike, alikeOver}

@@ -1,12 +1,8 @@
 -- Two gate lists that agree "in left and right throughout and in every table but the last" (document 02, K14), and what follows: they are one wiring,
 -- every gate but the last has changed in both or in neither, and their sheets are the same bytes except for the last line's table field.
 -- Assumes nothing.
-use Prim.Native.Nat.{ℕ, _+_, _-_, _<_}
-use mathlib.Core.Path.{_≡_, sym, _∙_, ap}
-use mathlib.Core.Logic.{_≢_}
-use mathlib.Core.List.{List, [], _∷_, _++_, map, append-assoc, append-nil}
-use native.Mathlib.Omega.{arith}
-use lib.ListN.{length, length-map, List·getD-append}
+use Rattle.laws.specs.Prelude.{ℕ, _<_, _+_, _-_, _≡_, _∙_, sym, ap, _≢_, List, [], _∷_, _++_, map, append-assoc, append-nil, arith, length, length-map}
+use Rattle.laws.specs.Prelude.{List·getD-append}
 use Rattle.rules.specs.Lists.{concatMap}
 use Rattle.rules.specs.Text.{space, newline, text, digitByte}
 use Rattle.rules.specs.Sheets.Sheets.{Header, Gate, referenceText}

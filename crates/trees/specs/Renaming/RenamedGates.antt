@@ -1,15 +1,8 @@
 -- "When made, their gate lines agree in left and right throughout and in every table but the last. The last tables differ by that renaming at each
 -- digit that some assignment reaches." (document 02, K14): for any wiring that can be filled.
 -- Assumes nothing.
-use Prim.Native.Nat.{ℕ, _+_, _-_, _*_, _/_, _%_, _^_, _<_}
-use mathlib.Core.Path.{_≡_, refl, sym, _∙_, ap, ap₂, subst, fun-ext}
-use mathlib.Core.Logic.{_≢_}
-use mathlib.Core.Bool.{true, false}
-use mathlib.Core.List.{List, [], _∷_, _++_}
-use native.Mathlib.Nat.{mod-lt, div-add-mod', div-lt-iff-lt-mul}
-use native.Mathlib.Omega.{arith}
-use lib.ListN.{length, getD}
-use lib.Dec.{eqb}
+use Rattle.laws.specs.Prelude.{ℕ, _<_, _+_, _-_, _^_, _*_, _%_, _/_, _≡_, _∙_, sym, ap, refl, subst, ap₂, fun-ext, _≢_, true, false, List, [], _∷_, _++_}
+use Rattle.laws.specs.Prelude.{mod-lt, div-lt-iff-lt-mul, div-add-mod', arith, eqb, length, getD}
 use Rattle.rules.specs.Lists.{firstPlace, withEach}
 use Rattle.rules.specs.Sheets.Sheets.{Gate, level, levelsAt}
 use Rattle.rules.specs.Nets.Value.{gateValue, withGates}

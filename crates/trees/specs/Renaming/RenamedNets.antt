@@ -1,11 +1,7 @@
 -- The nets made of two tables, one a renaming of the other's inks: settled, shallow, of each number of the family, and a kept wiring filled
 -- anew. The two nets are the same except for the last table, which is renamed (document 02, K14).
 -- Assumes nothing.
-use Prim.Native.Nat.{ℕ, _^_, _<_}
-use mathlib.Core.Path.{_≡_, refl, subst}
-use mathlib.Core.List.{List}
-use native.Mathlib.Omega.{arith}
-use lib.ListN.{length-map}
+use Rattle.laws.specs.Prelude.{ℕ, _<_, _^_, _≡_, refl, subst, List, arith, length-map}
 use Rattle.rules.specs.Sheets.Sheets.{Gate}
 use Rattle.rules.specs.Groups.Groups.{wholeGroup}
 use Rattle.rules.specs.Nets.Leaves.{leavesOf}

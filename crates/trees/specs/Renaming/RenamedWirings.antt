@@ -1,12 +1,8 @@
 -- Two tables, one a renaming of the other's inks, have the same wirings, since these are chosen by marks and leaves: the settled one, the
 -- shallow one, and each of the family, and equally many of these. A given wiring fits both or neither, at the same gate.
 -- Assumes nothing.
-use Prim.Native.Nat.{ℕ, suc, _+_, _-_, _<_}
-use mathlib.Core.Path.{_≡_, refl, sym, _∙_, ap, ap₂}
-use mathlib.Core.Bool.{Bool, not, _&&_}
-use mathlib.Core.List.{List, [], _∷_, _++_, map}
-use lib.ListN.{length, getD, length-map}
-use lib.Dec.{eqb, ltb}
+use Rattle.laws.specs.Prelude.{ℕ, _<_, _+_, _-_, suc, _≡_, _∙_, sym, ap, refl, ap₂, Bool, _&&_, not, List, [], _∷_, _++_, map, eqb, ltb, length, getD}
+use Rattle.laws.specs.Prelude.{length-map}
 use Rattle.rules.specs.Lists.{range, any, withEach}
 use Rattle.rules.specs.Sheets.Sheets.{Gate, Net, Table, usedBy}
 use Rattle.rules.specs.Nets.Leaves.{leavesOf}

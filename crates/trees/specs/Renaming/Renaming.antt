@@ -1,15 +1,8 @@
 -- "two full table sheets with the same first three lines, one got from the other by a one-to-one renaming of the ink levels" (document 02, K14).
 -- Alike compares inks only for equality, so everything derived from it is the same for both tables: classes, marks, the inputs that matter.
 -- Assumes nothing.
-use Prim.Native.Nat.{ℕ, zero, suc, _+_, _^_, _<_}
-use mathlib.Core.Path.{_≡_, refl, sym, _∙_, ap}
-use mathlib.Core.Bool.{not}
-use mathlib.Core.List.{List, [], List·Memᴰ, List·Memᴰ·not-nil, List·Memᴰ·eq-of-singleton}
-use native.Mathlib.Decide.{decLt}
-use native.Mathlib.Omega.{arith}
-use lib.ListN.{length}
-use lib.Dec.{eqb}
-use borrow.Author.Tests.{eqb-true, eq-eqb}
+use Rattle.laws.specs.Prelude.{ℕ, _<_, _+_, _^_, suc, zero, _≡_, _∙_, sym, ap, refl, not, List, [], List·Memᴰ, List·Memᴰ·not-nil}
+use Rattle.laws.specs.Prelude.{List·Memᴰ·eq-of-singleton, decLt, arith, eqb, length, eq-eqb, eqb-true}
 use Rattle.rules.specs.Lists.{range, those}
 use Rattle.rules.specs.Groups.Groups.{part, points, others, wholeGroup, alikeOver, alike, classes, multiplicity}
 use Rattle.rules.specs.Nets.Leaves.{matters, mattering, leafInputs, leavesOf}

@@ -1,12 +1,6 @@
 -- At each gate, a wiring by a choice of parts takes the part that the choice gives.
 -- Assumes nothing.
-use Prim.Native.Nat.{ℕ, zero, suc, _+_, _-_, _^_, _≤_, _<_}
-use mathlib.Core.Path.{_≡_, refl}
-use mathlib.Core.Logic.{_≢_}
-use mathlib.Core.Bool.{Bool, true, false}
-use native.Mathlib.Omega.{arith}
-use lib.Dec.{eqb}
-use borrow.Author.Tests.{eqb-false}
+use Rattle.laws.specs.Prelude.{ℕ, _<_, _≤_, _+_, _-_, _^_, suc, zero, _≡_, refl, _≢_, true, false, Bool, arith, eqb, eqb-false}
 use Rattle.rules.specs.Groups.Groups.{size}
 use Rattle.rules.specs.Groups.Marks.{inside}
 use Rattle.rules.specs.Nets.Wirings.{Wiring, input, gate, groupOf, firstInput, wiringBy}

@@ -1,16 +1,9 @@
 -- The computed list of fewest layers: a group that splits into two groups of mark 2 has one layer more than the deeper part of its shallowest
 -- split; any other group has none. This holds for any marks.
 -- Assumes nothing.
-use Prim.Native.Nat.{ℕ, zero, suc, _+_, _-_, _^_, _≤_, _<_, max}
-use mathlib.Core.Path.{_≡_, refl, sym, _∙_, ap}
-use mathlib.Core.Logic.{_⊎_, inl, inr, ⊎-elim}
-use mathlib.Core.Bool.{Bool, true, false}
-use mathlib.Core.List.{List, [], _∷_, map, List·Memᴰ, List·Memᴰ·not-nil, Memᴰ·map, Memᴰ·of-map}
-use native.Mathlib.Omega.{arith}
-use native.Mathlib.Numerals.{add-one}
-use native.Mathlib.Decide.{ℕ-discrete}
-use lib.ListN.{length, getD, length-append, List·getD-append}
-use lib.Seq.{getD-at}
+use Rattle.laws.specs.Prelude.{ℕ, _<_, _≤_, _+_, _-_, _^_, suc, zero, max, _≡_, _∙_, sym, ap, refl, ⊎-elim, _⊎_, inl, inr, true, false, Bool, List, []}
+use Rattle.laws.specs.Prelude.{_∷_, map, List·Memᴰ, List·Memᴰ·not-nil, Memᴰ·of-map, Memᴰ·map, add-one, ℕ-discrete, arith, length, getD, length-append}
+use Rattle.laws.specs.Prelude.{List·getD-append, getD-at}
 use Rattle.rules.specs.Lists.{range, those}
 use Rattle.rules.specs.Groups.Groups.{member, size}
 use Rattle.rules.specs.Groups.Marks.{markIn, partsAt}

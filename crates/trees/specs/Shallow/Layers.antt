@@ -1,12 +1,7 @@
 -- "The layers of a net are the most gates on a way from an input to the output.": they are the depth of the net's tree.
 -- Assumes nothing.
-use Prim.Native.Nat.{ℕ, suc, _+_, _-_, _<_, _≤_}
-use native.Mathlib.Nat.{add-zero}
-use native.Mathlib.Omega.{arith}
-use mathlib.Core.Path.{_≡_, refl, sym, ap, _∙_}
-use mathlib.Core.Bool.{true, false}
-use mathlib.Core.List.{List, [], _∷_, _++_, map, map-map, List·Memᴰ}
-use lib.ListN.{length, length-append, length-map}
+use Rattle.laws.specs.Prelude.{ℕ, _<_, _≤_, _+_, _-_, suc, _≡_, _∙_, sym, ap, refl, true, false, List, [], _∷_, _++_, map, List·Memᴰ, map-map, add-zero}
+use Rattle.laws.specs.Prelude.{arith, length, length-append, length-map}
 use Rattle.rules.specs.Lists.{range}
 use Rattle.rules.specs.Sheets.Sheets.{Gate}
 use Rattle.rules.specs.Nets.Wirings.{Wiring, input, gate, gatesIn, linksOf}

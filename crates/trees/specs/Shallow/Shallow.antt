@@ -2,15 +2,8 @@
 -- shallowest": this holds at each gate; it is a wiring of the group, as deep as the group's fewest layers; and no wiring of the group with few
 -- classes at each gate has fewer.
 -- Assumes nothing.
-use Prim.Native.Nat.{ℕ, _+_, _-_, _^_, _≤_, _<_, max}
-use mathlib.Core.Path.{_≡_, sym, ap, _∙_}
-use mathlib.Core.Logic.{_≢_, ⊎-elim}
-use mathlib.Core.Bool.{Bool, true, _&&_, and-eq-true-iff}
-use mathlib.Core.List.{List}
-use native.Mathlib.Nat.{le-of-eq}
-use native.Mathlib.Omega.{arith}
-use lib.Dec.{eqb}
-use borrow.Author.Tests.{eqb-true, eq-eqb}
+use Rattle.laws.specs.Prelude.{ℕ, _<_, _≤_, _+_, _-_, _^_, max, _≡_, _∙_, sym, ap, _≢_, ⊎-elim, true, Bool, _&&_, and-eq-true-iff, List, le-of-eq, arith}
+use Rattle.laws.specs.Prelude.{eqb, eq-eqb, eqb-true}
 use Rattle.rules.specs.Groups.Groups.{size}
 use Rattle.rules.specs.Groups.Marks.{inside, marksOf}
 use Rattle.rules.specs.Nets.Wirings.{Wiring, input, gate, groupOf}

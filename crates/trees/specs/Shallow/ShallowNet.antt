@@ -1,13 +1,7 @@
 -- The shallow net: if the whole group has mark 2, it is a net with the table, on the same leaves as the settled net, and "Every other tree computing
 -- that table has at least as many layers", whatever its leaves.
 -- Assumes nothing.
-use Prim.Native.Nat.{ℕ, _^_, _≤_, _<_}
-use mathlib.Core.Path.{_≡_, sym, _∙_}
-use mathlib.Core.Logic.{by-cases}
-use mathlib.Core.List.{List}
-use native.Mathlib.Omega.{arith}
-use native.Mathlib.Decide.{decLt}
-use lib.ListN.{length}
+use Rattle.laws.specs.Prelude.{ℕ, _<_, _≤_, _^_, _≡_, _∙_, sym, by-cases, List, decLt, arith, length}
 use Rattle.rules.specs.Sheets.Sheets.{Gate}
 use Rattle.rules.specs.Groups.Groups.{wholeGroup}
 use Rattle.rules.specs.Groups.Marks.{marksOf}

@@ -1,10 +1,7 @@
 -- The shallow net of a table under its header. If the whole group has mark 2, it follows a net sheet's rules, has exactly the table, and "Every
 -- other tree computing that table has at least as many layers"; its sheet is as long as the settled net's.
 -- Assumes nothing.
-use Prim.Native.Nat.{ℕ, _^_, _≤_, _<_}
-use mathlib.Core.Path.{_≡_, refl, sym, subst⁻¹}
-use mathlib.Core.List.{List}
-use lib.ListN.{length}
+use Rattle.laws.specs.Prelude.{ℕ, _<_, _≤_, _^_, _≡_, sym, refl, subst⁻¹, List, length}
 use Rattle.rules.specs.Sheets.Sheets.{Gate, Net, Table}
 use Rattle.rules.specs.Sheets.Printed.{printedNet}
 use Rattle.rules.specs.Nets.Layers.{layers}

@@ -1,10 +1,6 @@
 -- All net sheets with one header that use the same inputs have the same length: each has the same references and equally many digits.
 -- Assumes nothing.
-use Prim.Native.Nat.{ℕ, _+_, _-_, _*_}
-use mathlib.Core.Path.{_≡_, sym, ap, ap₂, _∙_, subst⁻¹}
-use mathlib.Core.List.{List, [], _∷_, map}
-use native.Mathlib.Omega.{arith}
-use lib.ListN.{length, length-append, length-map}
+use Rattle.laws.specs.Prelude.{ℕ, _+_, _-_, _*_, _≡_, _∙_, sym, ap, ap₂, subst⁻¹, List, [], _∷_, map, arith, length, length-append, length-map}
 use Rattle.rules.specs.Lists.{range, concatMap, total}
 use Rattle.rules.specs.Sheets.Sheets.{Header, Gate, Net, referenceText, usedBy}
 use Rattle.rules.specs.Sheets.Printed.{line, printedGate, printedNet}

@@ -2,12 +2,7 @@
 -- gates' digits. A net with the table has every input that matters among its leaves; and if the whole group has mark 2, the settled net, which
 -- is on the table's leaves, has the table.
 -- Assumes nothing.
-use Prim.Native.Nat.{ℕ, _^_, _<_}
-use mathlib.Core.Path.{_≡_, sym, ap, _∙_}
-use mathlib.Core.Logic.{_↔_}
-use mathlib.Core.Bool.{true, true≢false}
-use mathlib.Core.List.{List}
-use native.Mathlib.Omega.{arith}
+use Rattle.laws.specs.Prelude.{ℕ, _<_, _^_, _≡_, _∙_, sym, ap, _↔_, true, true≢false, List, arith}
 use Rattle.rules.specs.Sheets.Sheets.{Gate}
 use Rattle.rules.specs.Groups.Groups.{part, size, wholeGroup}
 use Rattle.rules.specs.Groups.Marks.{markIn, marksOf}

@@ -1,12 +1,7 @@
 -- The trees below the references: an input's is its leaf, and a gate's joins those of its two references. The values of the
 -- references are the values of their trees.
 -- Assumes nothing.
-use Prim.Native.Nat.{ℕ, _+_, _-_, _<_}
-use mathlib.Core.Path.{_≡_, _∙_, ap}
-use mathlib.Core.List.{List, map, map-map}
-use native.Mathlib.Nat.{zero-add}
-use native.Mathlib.Omega.{arith}
-use lib.ListN.{length, getD}
+use Rattle.laws.specs.Prelude.{ℕ, _<_, _+_, _-_, _≡_, _∙_, ap, List, map, map-map, zero-add, arith, length, getD}
 use Rattle.rules.specs.Lists.{range, withEach}
 use Rattle.rules.specs.Sheets.Sheets.{Gate, levelsAt}
 use Rattle.rules.specs.Nets.Value.{gateValue, withGates, value, valueWith}

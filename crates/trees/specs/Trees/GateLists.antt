@@ -1,11 +1,7 @@
 -- A wiring's gate list by the class rule ("A's, then B's, then the group's own"): the lines of its filling. So it follows every rule of a net
 -- sheet and has the tree's value. `Fillings` proves that it is the filling of the wiring's links.
 -- Assumes nothing.
-use Prim.Native.Nat.{ℕ, _+_, _<_}
-use native.Mathlib.Omega.{arith}
-use mathlib.Core.Path.{_≡_, refl, ap, ap₂, _∙_, subst, subst⁻¹}
-use mathlib.Core.Bool.{Bool, true, false}
-use mathlib.Core.List.{List, [], _∷_, _++_}
+use Rattle.laws.specs.Prelude.{ℕ, _<_, _+_, _≡_, _∙_, ap, refl, subst, ap₂, subst⁻¹, true, false, Bool, List, [], _∷_, _++_, arith}
 use Rattle.rules.specs.Sheets.Sheets.{Gate}
 use Rattle.rules.specs.Nets.Value.{value}
 use Rattle.rules.specs.Nets.Wirings.{Wiring, input, gate, groupOf, gatesIn, referenceTo}

@@ -1,16 +1,8 @@
 -- An input's home: while gates use references, each input stays below exactly one reference that is not yet used. So the trees
 -- of two unused references share no input, and a gate that joins them has each of its inputs once.
 -- Assumes nothing.
-use Prim.Native.Nat.{ℕ, _^_, _≤_, _<_}
-use mathlib.Core.Path.{_≡_, refl, sym, _∙_}
-use mathlib.Core.Bool.{Bool, true, false, _||_}
-use mathlib.Core.List.{List, [], _∷_, _++_, append-assoc, append-nil}
-use native.Mathlib.Omega.{arith}
-use native.Mathlib.Decide.{decLt}
-use lib.ListN.{length, List·getD-append}
-use lib.Seq.{getD-append-seam}
-use lib.Dec.{eqb}
-use borrow.Author.Tests.{eqb-true, eqb-false, eq-eqb, ne-eqb}
+use Rattle.laws.specs.Prelude.{ℕ, _<_, _≤_, _^_, _≡_, _∙_, sym, refl, true, false, Bool, _||_, List, [], _∷_, _++_, append-assoc, append-nil, decLt, arith}
+use Rattle.laws.specs.Prelude.{eqb, length, List·getD-append, getD-append-seam, eq-eqb, eqb-true, ne-eqb, eqb-false}
 use Rattle.rules.specs.Lists.{any, withEach}
 use Rattle.rules.specs.Sheets.Sheets.{Gate, usedBy}
 use Rattle.rules.specs.Groups.Groups.{member}

@@ -1,11 +1,6 @@
 -- Gate lists joined end to end: their references, their tables and their values.
 -- Assumes nothing.
-use Prim.Native.Nat.{ℕ, suc, _+_}
-use native.Mathlib.Nat.{add-zero}
-use native.Mathlib.Omega.{arith}
-use mathlib.Core.Path.{_≡_, refl}
-use mathlib.Core.List.{List, [], _∷_, _++_}
-use lib.ListN.{length}
+use Rattle.laws.specs.Prelude.{ℕ, _+_, suc, _≡_, refl, List, [], _∷_, _++_, add-zero, arith, length}
 use Rattle.rules.specs.Sheets.Sheets.{Gate, usedBy}
 use Rattle.rules.specs.Sheets.SheetRules.{RefersBack, Tables}
 

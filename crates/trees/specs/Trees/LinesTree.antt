@@ -1,11 +1,6 @@
 -- A tree's own gate lines give that tree back; so a wiring's links, filled, are the lines of the class rule's tree.
 -- Assumes nothing.
-use Prim.Native.Nat.{ℕ, _+_, _-_, _<_}
-use native.Mathlib.Omega.{arith}
-use mathlib.Core.Path.{_≡_, _∙_}
-use mathlib.Core.Bool.{true}
-use mathlib.Core.List.{List, _++_}
-use lib.ListN.{length, length-append}
+use Rattle.laws.specs.Prelude.{ℕ, _<_, _+_, _-_, _≡_, _∙_, true, List, _++_, arith, length, length-append}
 use Rattle.rules.specs.Lists.{withEach}
 use Rattle.rules.specs.Sheets.Sheets.{Gate}
 use Rattle.rules.specs.Nets.Wirings.{Wiring, gatesIn, referenceTo, linksOf}

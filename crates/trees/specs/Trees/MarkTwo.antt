@@ -1,14 +1,8 @@
 -- A group has mark 2 exactly if it has a wiring all of whose gates' groups have at most m classes. Any choice of parts that both have
 -- mark 2 gives such a wiring; document 01's choice of A is one.
 -- Assumes nothing.
-use Prim.Native.Nat.{ℕ, zero, suc, _+_, _-_, _^_, _≤_, _<_}
-use mathlib.Core.Path.{_≡_, refl, sym, _∙_, ap, ap₂}
-use mathlib.Core.Logic.{_≢_, _⊎_, ⊎-elim}
-use mathlib.Core.Bool.{Bool, true, false, _&&_, and-eq-true-iff}
-use mathlib.Core.List.{List}
-use native.Mathlib.Omega.{arith}
-use lib.Dec.{eqb}
-use borrow.Author.Tests.{eqb-true, eqb-false}
+use Rattle.laws.specs.Prelude.{ℕ, _<_, _≤_, _+_, _-_, _^_, suc, zero, _≡_, _∙_, sym, ap, refl, _≢_, ⊎-elim, _⊎_, true, false, Bool, _&&_}
+use Rattle.laws.specs.Prelude.{and-eq-true-iff, List, arith, eqb, eqb-true, eqb-false}
 use Rattle.rules.specs.Lists.{range, any}
 use Rattle.rules.specs.Groups.Groups.{member, size}
 use Rattle.rules.specs.Groups.Marks.{inside, markIn, partsAt, marksOf}
@@ -149,25 +143,6 @@ module _ (n : ℕ) (mark : ℕ → ℕ) (leaves : ℕ) (split : ℕ → ℕ) (sp
           → MarkedWiring g (elim b as (λ _. Wiring) [ true ↦ input (firstInput n g) | false ↦ w ])
       go w true one rest = single-wiring g g< (eqb-true _ _ one)
       go w false several rest = rest (eqb-false _ _ several)
-
-  -- a choice that takes the same parts of groups of mark 2 gives the same wiring
-  pub wiring-agree : (other : ℕ → ℕ) → ((g : ℕ) → g < 2 ^ n → mark g ≡ 2 → split g ≡ other g) → (fuel g : ℕ) → g < 2 ^ n → inside n g leaves ≡ true → mark g ≡ 2
-      → wiringBy n split fuel g ≡ wiringBy n other fuel g
-  unfolding wiringBy
-  wiring-agree other same zero g g< g-in two = refl
-  wiring-agree other same (suc fuel) g g< g-in two = go (eqb (size n g) 1) refl
-      λ several.
-      let half = parted g g< g-in two several in
-      ap₂ gate
-      (wiring-agree other same fuel _ (a-below g g< g-in two several) (a-inside g g< g-in two several) (half .two-a)
-      ∙ ap (wiringBy n other fuel) (same g g< two))
-      (wiring-agree other same fuel _ (b-below g g< g-in two several) (b-inside g g< g-in two several) (half .two-b)
-      ∙ ap (λ (a : ℕ). wiringBy n other fuel (g - a)) (same g g< two))
-    where
-      go : {w v : Wiring} (b : Bool) → eqb (size n g) 1 ≡ b → (size n g ≢ 1 → w ≡ v)
-          → _≡_ {A = Wiring} (elim b [ true ↦ input (firstInput n g) | false ↦ w ]) (elim b [ true ↦ input (firstInput n g) | false ↦ v ])
-      go true one rest = refl
-      go false several rest = rest (eqb-false _ _ several)
 
 -- a property of each gate's group implies what follows from it
 pub each-gate : {P Q : ℕ → Type 0} (n : ℕ) (w : Wiring) → ((g : ℕ) → g < 2 ^ n → P g → Q g) → EachOnce n w → EachGate P w → EachGate Q w

@@ -1,9 +1,6 @@
 -- A net's table follows a table sheet's rules and has a tree; its settled net follows a net sheet's rules and has that table.
 -- Assumes nothing.
-use Prim.Native.Nat.{ℕ, _<_}
-use mathlib.Core.Path.{_≡_, subst}
-use mathlib.Core.Bool.{true}
-use native.Mathlib.Omega.{arith}
+use Rattle.laws.specs.Prelude.{ℕ, _<_, _≡_, subst, true, arith}
 use Rattle.rules.specs.Limits.{levelsFit, inputsFit}
 use Rattle.laws.specs.Numbers.Sizes.{levels-fit, inputs-fit}
 use Rattle.rules.specs.Sheets.Sheets.{Net}

@@ -1,15 +1,8 @@
 -- A net is a tree: a gate list in which each reference is an input or an earlier gate, none is used twice and every gate but
 -- the last is used. Its leaves are the inputs that the gates use.
 -- Assumes nothing.
-use Prim.Native.Nat.{ℕ, suc, _+_, _-_, _^_, _≤_, _<_}
-use native.Mathlib.Omega.{arith}
-use native.Mathlib.Decide.{decLt}
-use mathlib.Core.Path.{_≡_, refl, sym, _∙_}
-use mathlib.Core.Bool.{false≢true}
-use mathlib.Core.List.{List, [], _∷_}
-use lib.ListN.{length}
-use lib.Dec.{eqb}
-use borrow.Author.Tests.{eqb-true, eq-eqb, ne-eqb}
+use Rattle.laws.specs.Prelude.{ℕ, _<_, _≤_, _+_, _-_, _^_, suc, _≡_, _∙_, sym, refl, false≢true, List, [], _∷_, decLt, arith, eqb, length, eq-eqb}
+use Rattle.laws.specs.Prelude.{eqb-true, ne-eqb}
 use Rattle.rules.specs.Lists.{any}
 use Rattle.rules.specs.Sheets.Sheets.{Gate, usedBy}
 use Rattle.rules.specs.Nets.Value.{value}

@@ -1,15 +1,7 @@
 -- Refusal 16, "no tree", and its place: "the group of fewest members, then lowest number, with mark 1".
 -- Assumes nothing.
-use Prim.Native.Nat.{ℕ, zero, suc, _+_, _^_, _≤_, _<_}
-use mathlib.Core.Path.{_≡_, sym, _∙_}
-use mathlib.Core.Logic.{_≢_, _↔_, _⊎_, inl, inr, ⊎-elim}
-use mathlib.Core.Bool.{Bool, true, _&&_, and-eq-true-iff}
-use mathlib.Core.List.{List}
-use native.Mathlib.Omega.{arith}
-use native.Mathlib.Decide.{ℕ-discrete}
-use lib.Dec.{eqb}
-use lib.Pow.{pow-lt}
-use borrow.Author.Tests.{eqb-true, eq-eqb}
+use Rattle.laws.specs.Prelude.{ℕ, _<_, _≤_, _+_, _^_, suc, zero, _≡_, _∙_, sym, _↔_, _≢_, ⊎-elim, _⊎_, inl, inr, true, Bool, _&&_, and-eq-true-iff, List}
+use Rattle.laws.specs.Prelude.{ℕ-discrete, arith, eqb, eq-eqb, eqb-true, pow-lt}
 use Rattle.rules.specs.Lists.{range, those, concatMap, find}
 use Rattle.rules.specs.Groups.Groups.{part, size, multiplicity, wholeGroup}
 use Rattle.rules.specs.Groups.Marks.{markIn, marksOf, bySize, noTreePlace}

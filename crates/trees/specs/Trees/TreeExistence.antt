@@ -1,12 +1,7 @@
 -- Section I's trees themselves, with any wiring and any digits: each is some net, and each net is one. So a tree computes a table exactly
 -- if a net does.
 -- Assumes nothing.
-use Prim.Native.Nat.{ℕ, _+_, _*_}
-use mathlib.Core.Path.{_≡_, sym, _∙_}
-use mathlib.Core.Logic.{_↔_}
-use mathlib.Core.List.{List}
-use native.Mathlib.Omega.{arith}
-use lib.ListN.{getD}
+use Rattle.laws.specs.Prelude.{ℕ, _+_, _*_, _≡_, _∙_, sym, _↔_, List, arith, getD}
 use Rattle.rules.specs.Sheets.Sheets.{Gate, levelsAt}
 use Rattle.rules.specs.Nets.Value.{value}
 use Rattle.rules.specs.Nets.Wirings.{groupOf, gatesIn}

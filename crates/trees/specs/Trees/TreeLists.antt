@@ -1,17 +1,8 @@
 -- A tree is a net: its gates written out ("A's, then B's, then the group's own") with its own digits, whatever they are, follow every
 -- rule of a net sheet and have the tree's value. `NetTree` proves the converse: a net is a tree.
 -- Assumes nothing.
-use Prim.Native.Nat.{ℕ, suc, _+_, _-_, _*_, _≤_, _<_}
-use native.Mathlib.Nat.{add-zero, zero-add, add-assoc}
-use native.Mathlib.Decide.{decLt}
-use native.Mathlib.Omega.{arith}
-use mathlib.Core.Path.{_≡_, refl, sym, ap, _∙_}
-use mathlib.Core.Logic.{by-cases}
-use mathlib.Core.Bool.{Bool, true, false}
-use mathlib.Core.List.{List, [], _∷_, _++_, List·Memᴰ}
-use lib.ListN.{length, getD, length-append}
-use lib.Dec.{eqb}
-use borrow.Author.Tests.{eq-eqb}
+use Rattle.laws.specs.Prelude.{ℕ, _<_, _≤_, _+_, _-_, suc, _*_, _≡_, _∙_, sym, ap, refl, by-cases, true, false, Bool, List, [], _∷_, _++_, List·Memᴰ}
+use Rattle.laws.specs.Prelude.{zero-add, add-zero, add-assoc, decLt, arith, eqb, length, getD, length-append, eq-eqb}
 use Rattle.rules.specs.Lists.{range, any, those, withEach}
 use Rattle.rules.specs.Sheets.Sheets.{Gate, usedBy, level, levelsAt}
 use Rattle.rules.specs.Nets.Value.{value, gateValue, withGates, valueWith}

@@ -1,9 +1,7 @@
 -- What the theorems are about: wirings of a group, the class rule's tree, alike as a statement. (Trees are in `rules`, `Nets/Trees`; a net sheet's
 -- rules in `Sheets/SheetRules`.)
 -- Assumes nothing.
-use Prim.Native.Nat.{ℕ, _+_}
-use mathlib.Core.Path.{_≡_}
-use mathlib.Core.Bool.{Bool, false}
+use Rattle.laws.specs.Prelude.{ℕ, _+_, _≡_, false, Bool}
 use Rattle.rules.specs.Groups.Groups.{part, others}
 use Rattle.rules.specs.Nets.Wirings.{Wiring, input, gate, groupOf}
 use Rattle.rules.specs.Nets.Filling.{gateDigits}

@@ -1,13 +1,7 @@
 -- The settled net depends only on the table: two nets have the same settled net exactly if they compute the same table, "unused inputs included"
 -- (document 02, K12): a net's table is over all inputs, whichever it uses.
 -- Assumes nothing.
-use Prim.Native.Nat.{ℕ, _^_, _<_}
-use mathlib.Core.Path.{_≡_, sym, ap, _∙_, subst, subst⁻¹}
-use mathlib.Core.Logic.{_↔_}
-use mathlib.Core.List.{List}
-use native.Mathlib.Nat.{zero-add}
-use lib.ListN.{length}
-use lib.Seq.{ext-getD}
+use Rattle.laws.specs.Prelude.{ℕ, _<_, _^_, _≡_, _∙_, sym, ap, subst, subst⁻¹, _↔_, List, zero-add, length, ext-getD}
 use Rattle.rules.specs.Sheets.Sheets.{Gate}
 use Rattle.rules.specs.Nets.Value.{value, tableOf}
 use Rattle.rules.specs.Groups.Groups.{wholeGroup}

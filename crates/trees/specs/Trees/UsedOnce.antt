@@ -1,17 +1,9 @@
 -- "No input or gate is referred to twice.": a sum over the references that a net uses is the sum over its used inputs and over every gate but the
 -- last. So a net has one gate fewer than it uses inputs.
 -- Assumes nothing.
-use Prim.Native.Nat.{ℕ, zero, suc, _+_, _-_, _≤_, _<_}
-use mathlib.Core.Path.{_≡_, refl, sym, ap, _∙_}
-use mathlib.Core.Logic.{by-cases}
-use mathlib.Core.Bool.{Bool, true, false, cond, true≢false, _||_}
-use mathlib.Core.List.{List, [], _∷_, map, List·Memᴰ, List·Memᴰ·head, List·Memᴰ·tail}
-use native.Mathlib.Nat.{zero-add, add-zero}
-use native.Mathlib.Omega.{arith}
-use native.Mathlib.Decide.{ℕ-discrete}
-use lib.ListN.{length}
-use lib.Dec.{eqb}
-use borrow.Author.Tests.{eqb-true, eqb-false, ne-eqb}
+use Rattle.laws.specs.Prelude.{ℕ, _<_, _≤_, _+_, _-_, suc, zero, _≡_, _∙_, sym, ap, refl, by-cases, true, false, Bool, true≢false, cond, _||_, List, []}
+use Rattle.laws.specs.Prelude.{_∷_, map, List·Memᴰ, List·Memᴰ·head, List·Memᴰ·tail, zero-add, add-zero, ℕ-discrete, arith, eqb, length, eqb-true, ne-eqb}
+use Rattle.laws.specs.Prelude.{eqb-false}
 use Rattle.rules.specs.Lists.{range, any, those, total}
 use Rattle.rules.specs.Sheets.Sheets.{Gate, usedBy}
 use Rattle.rules.specs.Groups.Groups.{member, size}

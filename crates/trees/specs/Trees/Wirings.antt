@@ -1,14 +1,7 @@
 -- For any group and any wiring of it: some filling determines the ink exactly if every gate's group has at most m classes,
 -- and then the class rule's filling does.
 -- Assumes nothing.
-use Prim.Native.Nat.{ℕ, suc, _+_, _*_, _^_, _<_}
-use mathlib.Core.Path.{_≡_, sym, _∙_, ap₂}
-use mathlib.Core.Bool.{Bool, true, false}
-use mathlib.Core.List.{List}
-use native.Mathlib.Omega.{arith}
-use lib.Arith.{digits-lt}
-use lib.Pow.{pow-pos}
-use lib.ListN.{getD}
+use Rattle.laws.specs.Prelude.{ℕ, _<_, _+_, _^_, suc, _*_, _≡_, _∙_, sym, ap₂, true, false, Bool, List, arith, getD, digits-lt, pow-pos}
 use Rattle.rules.specs.Groups.Groups.{size, part}
 use Rattle.rules.specs.Nets.Wirings.{Wiring, input, gate, groupOf, gatesIn}
 use Rattle.rules.specs.Nets.Filling.{carried, given}

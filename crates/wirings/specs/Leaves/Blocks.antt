@@ -1,14 +1,9 @@
 -- The cells in blocks. The cells with the same levels at the inputs before input i are contiguous, with one run of its weight for each level. So two
 -- neighbours at the input are in one block, and the first of them is not in its last run.
 -- Assumes nothing.
-use Prim.Native.Nat.{ℕ, suc, _+_, _-_, _*_, _/_, _%_, _^_, _≤_, _<_}
-use mathlib.Core.Path.{_≡_, refl, sym, ap, _∙_}
-use mathlib.Core.Bool.{Bool, true, false, not, true≢false, false≢true}
-use native.Mathlib.Nat.{zero-mul, one-mul, pow-succ', suc-mul, mul-assoc, mul-le-mul-right, mul-pos, mul-add-div-right, add-div-right, div-add-mod'}
-use native.Mathlib.Nat.{div-lt-iff-lt-mul, lt-div-mul-add, mod-lt, one-le-pow}
-use native.Mathlib.Omega.{arith}
-use lib.Arith.{digits-lt, digits-mod}
-use lib.Pow.{pow-add}
+use Rattle.laws.specs.Prelude.{ℕ, _<_, _≤_, _+_, _-_, _^_, suc, _*_, _%_, _/_, _≡_, _∙_, sym, ap, refl, true, false, Bool, not, true≢false, false≢true}
+use Rattle.laws.specs.Prelude.{zero-mul, mul-le-mul-right, suc-mul, mod-lt, div-lt-iff-lt-mul, div-add-mod', one-le-pow, mul-assoc, one-mul, pow-succ'}
+use Rattle.laws.specs.Prelude.{mul-pos, mul-add-div-right, add-div-right, lt-div-mul-add, arith, digits-lt, digits-mod, pow-add}
 use Rattle.rules.specs.Sheets.Sheets.{level}
 use Rattle.rules.specs.Nets.Leaves.{matters}
 use Rattle.trees.specs.Leaves.Neighbours.{same-idle, differ-matters}

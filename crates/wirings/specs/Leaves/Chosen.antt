@@ -1,187 +1,119 @@
--- The leaves in two parts: the inputs that matter, and the first-listed others that bring the number up to two. Each part is collected in the inputs'
--- order, and the remaining inputs decide the result.
+-- The leaves from the group of the idle inputs: the inputs that matter, and the first-listed others that bring the number up to two.
 -- Assumes nothing.
-use Prim.Native.Nat.{ℕ, suc, _+_, _-_, _^_, _≤_, _<_}
-use mathlib.Core.Path.{_≡_, sym, ap, ap₂, _∙_}
-use mathlib.Core.Logic.{_≢_}
-use mathlib.Core.Bool.{Bool, true, false, not}
-use mathlib.Core.List.{List, [], _∷_, map, append-nil}
-use native.Mathlib.Nat.{zero-add, sub-zero}
-use native.Mathlib.Numerals.{add-one}
-use native.Mathlib.Omega.{arith}
-use lib.ListN.{length, take}
-use lib.Seq.{take-nil}
-use lib.Pow.{pow-mono}
-use Rattle.rules.specs.Limits.{mostInputs}
+use Rattle.laws.specs.Prelude.{ℕ, _<_, _≤_, _+_, _-_, _^_, _≡_, _∙_, sym, ap, refl, ap₂, true, false, Bool, not, List, _∷_, map, append-nil, sub-zero}
+use Rattle.laws.specs.Prelude.{decLt, arith, length, take, eq-eqb, ne-eqb}
 use Rattle.rules.specs.Lists.{range, those, total}
+use Rattle.rules.specs.Groups.Groups.{member, size, others}
+use Rattle.rules.specs.Nets.Wirings.{firstInput}
 use Rattle.rules.specs.Nets.Leaves.{matters, mattering, leafInputs, leavesOf}
-use Rattle.laws.specs.Lists.Ranges.{range-next, range-none}
+use Rattle.laws.specs.Lists.Ranges.{range-next, range-mem}
+use Rattle.laws.specs.Lists.Listed.{those-listed}
 use Rattle.laws.specs.Lists.Totals.{those-cons, total-parts}
+use Rattle.trees.specs.Groups.GroupSum.{group-sum}
+use Rattle.trees.specs.Groups.Members.{member-zero, member-single, member-others, others-below, size-zero, size-single, size-one, size-pos}
+use Rattle.marks.specs.Marking.{IdleGroup}
 
 -- some inputs as a group
-abbrev pub groupWith : List ℕ → ℕ
+abbrev groupWith : List ℕ → ℕ
 groupWith inputs = total (map (λ i. 2 ^ i) inputs)
-
--- the next input's power is twice this one's
-double : (i : ℕ) → 2 ^ (i + 1) ≡ 2 ^ i + 2 ^ i
-double i = rw add-one (omega arith)
-
--- an input's power is small
-pub power-small : (n i : ℕ) → n ≤ mostInputs → i < n → 2 ^ i ≤ 4_096
-power-small n i few h = pow-mono {j = mostInputs} (omega arith)
 
 -- the inputs of a range that pass, from input i on
 
-module _ (test : ℕ → Bool) (i n : ℕ) where
-  pub those-with : i < n → test i ≡ true → those test (range i (n - i)) ≡ i ∷ those test (range (i + 1) (n - (i + 1)))
-  those-with h e = rw (range-next i n h, those-cons test i (range (i + 1) (n - (i + 1))), e)
+module _ (test : ℕ → Bool) (i n : ℕ) (h : i < n) where
+  those-with : test i ≡ true → those test (range i (n - i)) ≡ i ∷ those test (range (i + 1) (n - (i + 1)))
+  those-with e = rw (range-next i n h, those-cons test i (range (i + 1) (n - (i + 1))), e)
 
-  pub those-without : i < n → test i ≡ false → those test (range i (n - i)) ≡ those test (range (i + 1) (n - (i + 1)))
-  those-without h e = rw (range-next i n h, those-cons test i (range (i + 1) (n - (i + 1))), e)
+  those-without : test i ≡ false → those test (range i (n - i)) ≡ those test (range (i + 1) (n - (i + 1)))
+  those-without e = rw (range-next i n h, those-cons test i (range (i + 1) (n - (i + 1))), e)
 
-  pub those-none : n ≤ i → those test (range i (n - i)) ≡ []
-  unfolding those
-  those-none h = rw (range-none i n h)
+module _ (n idle m : ℕ) (f : ℕ → ℕ) (group : IdleGroup m n f idle) (used : ℕ) (is-used : used ≡ others n idle) where
+  used< : used < 2 ^ n
+  used< = omega (arith, is-used, others-below n idle)
 
--- ---- the inputs that matter
+  -- the members of the other group are the inputs that matter
+  used-is : (i : ℕ) → i < n → member i used ≡ matters m n f i
+  used-is i i< = ap (member i) is-used ∙ member-others i n idle i< (group .below) ∙ ap not (group .is i i<) ∙ not-not (matters m n f i)
+    where
+      not-not : (t : Bool) → not (not t) ≡ t
+      not-not true = refl
+      not-not false = refl
 
--- as a group, and their number
-pub record Mattering (m n : ℕ) (f : ℕ → ℕ) (group count : ℕ) : Type 0 where
-  pub is : group ≡ groupWith (mattering m n f)
-  pub counted : count ≡ length (mattering m n f)
-  pub below : group < 2 ^ n
-
--- those before input i are collected
-pub record Gathered (m n : ℕ) (f : ℕ → ℕ) (group count i : ℕ) : Type 0 where
-  pub upto : i ≤ n
-  pub is : group + groupWith (those (matters m n f) (range i (n - i))) ≡ groupWith (mattering m n f)
-  pub counted : count + length (those (matters m n f) (range i (n - i))) ≡ length (mattering m n f)
-  pub below : group < 2 ^ i
-  pub few : count ≤ i
-
-module _ (m n : ℕ) (f : ℕ → ℕ) where
-  pub gathered-start : Gathered m n f 0 0 0
+  used-all : those (λ i. member i used) (range 0 n) ≡ mattering m n f
   unfolding mattering
-  gathered-start =
-      record {
-        upto = omega arith;
-        is = rw (sub-zero, zero-add);
-        counted = rw (sub-zero, zero-add);
-        below = omega arith;
-        few = omega arith;
-      }
+  used-all = those-listed _ _ (range 0 n) (λ i is. used-is i (omega (arith, range-mem 0 n i is)))
 
-  module _ (group count i : ℕ) (h : i < n) (before : Gathered m n f group count i) where
-    pub gathered-with : (power : ℕ) → power ≡ 2 ^ i → matters m n f i ≡ true → Gathered m n f (group + power) (count + 1) (i + 1)
-    unfolding total
-    gathered-with power is e =
-        let list = those-with (matters m n f) i n h e in
-        record {
-          upto = omega arith;
-          is = omega (arith, before .is, ap groupWith list);
-          counted = omega (arith, before .counted, ap length list);
-          below = omega (arith, before .below, double i);
-          few = omega (arith, before .few);
-        }
+  used-sum : used ≡ groupWith (mattering m n f)
+  used-sum = sym (group-sum n used used<) ∙ ap groupWith used-all
 
-    pub gathered-without : matters m n f i ≡ false → Gathered m n f group count (i + 1)
-    gathered-without e =
-        let list = those-without (matters m n f) i n h e in
-        record {
-          upto = omega arith;
-          is = omega (arith, before .is, ap groupWith list);
-          counted = omega (arith, before .counted, ap length list);
-          below = omega (arith, before .below, double i);
-          few = omega (arith, before .few);
-        }
+  used-count : size n used ≡ length (mattering m n f)
+  unfolding size
+  used-count = ap length used-all
 
-  pub gathered-end : (group count i : ℕ) → n ≤ i → Gathered m n f group count i → Mattering m n f group count
-  unfolding total
-  gathered-end group count i h before =
-      let list = those-none (matters m n f) i n h in
-      let end : i ≡ n = omega (arith, before .upto) in
-      record {
-        is = omega (arith, before .is, ap groupWith list);
-        counted = omega (arith, before .counted, ap length list);
-        below = rw end at (before .below);
-      }
-
--- ---- the others
-
--- the inputs from i on that do not matter
-abbrev pub idleFrom : ℕ → ℕ → (ℕ → ℕ) → ℕ → List ℕ
-idleFrom m n f i = those (λ j. not (matters m n f j)) (range i (n - i))
-
--- the group of the first-listed of them, at most `count`
-pub record WiringIdle (m n : ℕ) (f : ℕ → ℕ) (count group : ℕ) : Type 0 where
-  pub is : group ≡ groupWith (take count (idleFrom m n f 0))
-  pub below : group < 2 ^ n
-
--- those before input i are collected, and `left` more may be
-pub record IdleGathered (m n : ℕ) (f : ℕ → ℕ) (count group left i : ℕ) : Type 0 where
-  pub upto : i ≤ n
-  pub is : group + groupWith (take left (idleFrom m n f i)) ≡ groupWith (take count (idleFrom m n f 0))
-  pub below : group < 2 ^ i
-
-module _ (m n : ℕ) (f : ℕ → ℕ) (count : ℕ) where
-  pub idle-start : IdleGathered m n f count 0 count 0
-  idle-start = record { upto = omega arith; is = zero-add _; below = omega arith }
-
-  module _ (group left i : ℕ) (h : i < n) (before : IdleGathered m n f count group left i) where
-    pub idle-with : left ≢ 0 → (power : ℕ) → power ≡ 2 ^ i → matters m n f i ≡ false → IdleGathered m n f count (group + power) (left - 1) (i + 1)
-    unfolding total
-    idle-with some power is e =
-        let next : left ≡ suc (left - 1) = omega arith in
-        let list : take left (idleFrom m n f i) ≡ i ∷ take (left - 1) (idleFrom m n f (i + 1)) =
-        ap (λ (l : List ℕ). take left l) (those-with (λ j. not (matters m n f j)) i n h (ap not e))
-        ∙ ap (λ (k : ℕ). take k (i ∷ idleFrom m n f (i + 1))) next in
-        record {
-          upto = omega arith;
-          is = omega (arith, before .is, ap groupWith list);
-          below = omega (arith, before .below, double i);
-        }
-
-    pub idle-without : matters m n f i ≡ true → IdleGathered m n f count group left (i + 1)
-    idle-without e =
-        let list = those-without (λ j. not (matters m n f j)) i n h (ap not e) in
-        record {
-          upto = omega arith;
-          is = omega (arith, before .is, ap (λ (l : List ℕ). groupWith (take left l)) list);
-          below = omega (arith, before .below, double i);
-        }
-
-  -- no more may be collected, ..
-  pub idle-full : (group left i : ℕ) → left ≡ 0 → IdleGathered m n f count group left i → WiringIdle m n f count group
-  unfolding total
-  idle-full group left i none before =
-      record {
-        is = omega (arith, before .is, ap (λ (k : ℕ). groupWith (take k (idleFrom m n f i))) none);
-        below = omega (arith, before .below, pow-mono (before .upto));
-      }
-
-  -- .. or none are left
-  pub idle-end : (group left i : ℕ) → n ≤ i → IdleGathered m n f count group left i → WiringIdle m n f count group
-  unfolding total
-  idle-end group left i h before =
-      let list : take left (idleFrom m n f i) ≡ [] = ap (λ (l : List ℕ). take left l) (those-none (λ j. not (matters m n f j)) i n h) ∙ take-nil left in
-      record {
-        is = omega (arith, before .is, ap groupWith list);
-        below = omega (arith, before .below, pow-mono (before .upto));
-      }
-
--- ---- both
-
-module _ (m n : ℕ) (f : ℕ → ℕ) where
-  pub leaves-enough : (group count : ℕ) → Mattering m n f group count → 2 ≤ count → group ≡ leavesOf m n f
+  pub leaves-enough : 2 ≤ size n used → used ≡ leavesOf m n f
   unfolding leavesOf leafInputs
-  leaves-enough group count these enough =
-      let none : 2 - length (mattering m n f) ≡ 0 = omega (arith, these .counted) in
-      rw none (these .is ∙ ap groupWith (sym (append-nil (mattering m n f))))
+  leaves-enough enough =
+      let none : 2 - length (mattering m n f) ≡ 0 = omega (arith, used-count) in
+      rw none (used-sum ∙ ap groupWith (sym (append-nil (mattering m n f))))
 
-  pub leaves-joined : (group count more : ℕ) → Mattering m n f group count → WiringIdle m n f (2 - count) more → group + more ≡ leavesOf m n f
+  -- ---- the others
+
+  abbrev idleFrom : ℕ → List ℕ
+  idleFrom i = those (λ j. not (matters m n f j)) (range i (n - i))
+
+  leaves-joined : used + groupWith (take (2 - size n used) (idleFrom 0)) ≡ leavesOf m n f
   unfolding leavesOf leafInputs
-  leaves-joined group count more these others =
-      let idle : ℕ → ℕ → List ℕ = λ k l. take (2 - k) (those (λ i. not (matters m n f i)) (range 0 l)) in
+  leaves-joined =
       rw total-parts
-      (ap₂ _+_ (these .is)
-      (others .is ∙ ap (λ (k : ℕ). groupWith (idle k (n - 0))) (these .counted) ∙ ap (λ (l : ℕ). groupWith (idle (length (mattering m n f)) l)) (sub-zero n)))
+      (ap₂ _+_ used-sum
+      (ap₂ (λ (k l : ℕ). groupWith (take (2 - k) (those (λ j. not (matters m n f j)) (range 0 l)))) used-count (sub-zero n)))
+
+  with-others : (k : ℕ) (l : List ℕ) → size n used ≡ k → idleFrom 0 ≡ l → used + groupWith (take (2 - k) l) ≡ leavesOf m n f
+  with-others k l e h = ap₂ (λ (j : ℕ) (xs : List ℕ). used + groupWith (take (2 - j) xs)) (sym e) (sym h) ∙ leaves-joined
+
+  tested : (i : ℕ) → i < n → (t : Bool) → member i used ≡ t → not (matters m n f i) ≡ not t
+  tested i i< t e = ap not (sym (used-is i i<) ∙ e)
+
+  module _ (several : 2 ≤ n) where
+    zero< : 0 < n
+    zero< = omega arith
+
+    from-first : member 0 used ≡ false → idleFrom 0 ≡ 0 ∷ idleFrom 1
+    from-first out = those-with _ 0 n zero< (tested 0 zero< false out)
+
+    from-second : member 1 used ≡ false → idleFrom 1 ≡ 1 ∷ idleFrom 2
+    from-second out = those-with _ 1 n several (tested 1 several false out)
+
+    -- no input matters, or only the first-listed
+    pub leaves-first : used ≤ 1 → 3 ≡ leavesOf m n f
+    unfolding total
+    leaves-first few = go (decLt 0 used)
+      where
+        go : Dec (0 < used) → 3 ≡ leavesOf m n f
+        go (no none) =
+            let e : used ≡ 0 = omega arith in
+            let out : (i : ℕ) → member i used ≡ false = λ i. ap (member i) e ∙ member-zero i in
+            omega (
+              arith,
+              e,
+              with-others 0 (0 ∷ 1 ∷ idleFrom 2) (ap (size n) e ∙ size-zero n) (from-first (out 0) ∙ ap (λ (l : List ℕ). 0 ∷ l) (from-second (out 1))),
+            )
+        go (yes some) =
+            let e : used ≡ 2 ^ 0 = omega arith in
+            let first : member 0 used ≡ true = ap (member 0) e ∙ member-single 0 0 ∙ eq-eqb 0 0 refl in
+            let second : member 1 used ≡ false = ap (member 1) e ∙ member-single 1 0 ∙ ne-eqb 1 0 (λ h. omega arith) in
+            omega (
+              arith,
+              e,
+              with-others 1 (1 ∷ idleFrom 2) (ap (size n) e ∙ size-single 0 n zero<)
+                  (those-without _ 0 n zero< (tested 0 zero< true first) ∙ from-second second),
+            )
+
+    -- only another input
+    pub leaves-other : 1 < used → size n used ≤ 1 → used + 1 ≡ leavesOf m n f
+    unfolding total
+    leaves-other more few =
+        let one : size n used ≡ 1 = omega (arith, size-pos n used used< (omega arith)) in
+        let alone = size-one n used used< one .1 in
+        let first : member 0 used ≡ false =
+        ap (member 0) alone ∙ member-single 0 (firstInput n used) ∙ ne-eqb 0 (firstInput n used) (λ e. omega (arith, alone ∙ ap (λ (k : ℕ). 2 ^ k) (sym e))) in
+        omega (arith, with-others 1 (0 ∷ idleFrom 1) one (from-first first))

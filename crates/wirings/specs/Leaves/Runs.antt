@@ -1,11 +1,6 @@
 -- Comparing two runs of a table's inks.
 -- Assumes nothing.
-use Prim.Native.Nat.{ℕ, _+_, _<_}
-use mathlib.Core.Path.{_≡_}
-use mathlib.Core.Logic.{_⊎_, inl, inr}
-use mathlib.Core.Bool.{Bool, true, false, true≢false, false≢true}
-use native.Mathlib.Nat.{eq-or-lt-of-le}
-use native.Mathlib.Omega.{arith}
+use Rattle.laws.specs.Prelude.{ℕ, _<_, _+_, _≡_, _⊎_, inl, inr, true, false, Bool, true≢false, false≢true, eq-or-lt-of-le, arith}
 
 -- the `count` inks from a on equal those from b on
 abbrev pub WiringSameRuns : (ℕ → ℕ) → ℕ → ℕ → ℕ → Type 0

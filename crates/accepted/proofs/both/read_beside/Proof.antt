@@ -25,7 +25,8 @@ returns : tie.Need-returns
 returns c =
     let told = c .before .before in
     let read = told-read told in
-    both-differ _ _ _ _ _ (at-start read .pre .0) _ (table-taken _ _ _ (read .read-table .ensures) (told .enum-told .given .1)) _ (c .before .same-header .ensures) (c .if1 .taken)
+    both-differ _ _ _ _ _ (at-start read .pre .0) _ (table-taken _ _ _ (read .read-table .ensures) (told .enum-told .given .1)) _
+    (c .before .same-header .ensures) (c .if1 .taken)
 
 returns-2 : tie.Need-returns-2
 returns-2 c =
@@ -36,7 +37,8 @@ returns-3 : tie.Need-returns-3
 returns-3 c =
     let told = c .before .before in
     let read = told-read told in
-    both-accepted _ _ _ _ _ (at-start read .pre .0) _ (table-taken _ _ _ (read .read-table .ensures) (told .enum-told .given .1)) _ (c .before .same-header .ensures) (c .if1 .left)
+    both-accepted _ _ _ _ _ (at-start read .pre .0) _ (table-taken _ _ _ (read .read-table .ensures) (told .enum-told .given .1)) _
+    (c .before .same-header .ensures) (c .if1 .left)
 
 pub read-beside-spec : {M : Type 1} → statement M
 read-beside-spec =

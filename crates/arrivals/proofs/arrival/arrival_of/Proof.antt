@@ -1,8 +1,6 @@
 -- `arrivals::arrival::arrival_of` meets its contract: the test distinguishes the two cases.
 -- Assumes nothing.
-use mathlib.Core.Path.{ap, ap₂}
-use borrow.Author.Needs.{needs}
-use borrow.Author.Tests.{eq-eqb, ne-eqb}
+use Rattle.laws.specs.Prelude.{ap, ap₂, eq-eqb, ne-eqb, needs}
 use Rattle.rules.specs.Sheets.ArrivalSheet.{arrivalOf}
 use Rattle.arrivals.specs.declared.arrival.Arrival.the-variants.{Fixed, Between}
 use Rattle.arrivals.proofs.arrival.arrival_of.Statement.{statement}

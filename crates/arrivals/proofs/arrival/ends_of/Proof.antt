@@ -1,7 +1,6 @@
 -- `arrivals::arrival::ends_of` meets its contract, in each arm.
 -- Assumes nothing.
-use mathlib.Core.Path.{sym, ap}
-use borrow.Author.Needs.{needs}
+use Rattle.laws.specs.Prelude.{sym, ap, needs}
 use Rattle.arrivals.specs.Ends.{endsIn}
 use Rattle.arrivals.proofs.arrival.ends_of.Statement.{statement}
 use Rattle.arrivals.proofs.arrival.ends_of.Tie as tie

@@ -1,7 +1,6 @@
 -- `arrivals::arrival::microseconds` meets its contract: a whole number times 0.25 is its quarter, exactly.
 -- Assumes nothing.
-use native.Mathlib.Omega.{arith}
-use borrow.Author.Needs.{needs}
+use Rattle.laws.specs.Prelude.{arith, needs}
 use Rattle.laws.specs.Numbers.Quarters.{quarter-of}
 use Rattle.arrivals.proofs.arrival.microseconds.Statement.{statement}
 use Rattle.arrivals.proofs.arrival.microseconds.Tie as tie

@@ -1,7 +1,6 @@
 -- `arrivals::call::arrivals` meets its contract: the refusals of the net sheet, or the result for the arrival sheet.
 -- Assumes nothing.
-use mathlib.Core.Path.{sym}
-use borrow.Author.Needs.{needs}
+use Rattle.laws.specs.Prelude.{sym, needs}
 use Rattle.laws.specs.Calls.Arrivals.{arrivals-net-refused}
 use Rattle.accepted.specs.Taken.{net-refused, net-taken}
 use Rattle.arrivals.proofs.call.arrivals.Statement.{statement}

@@ -1,9 +1,6 @@
 -- `arrivals::settling::input_ends` meets its contract. The loop's invariant: the first i inputs have their ends.
 -- Assumes nothing.
-use Prim.Native.Nat.{ℕ, _-_, _≤_, _<_}
-use mathlib.Core.Path.{_≡_, refl, ap, _∙_, subst}
-use native.Mathlib.Omega.{arith}
-use borrow.Author.Needs.{needs}
+use Rattle.laws.specs.Prelude.{ℕ, _<_, _≤_, _-_, _≡_, _∙_, ap, refl, subst, arith, needs}
 use Rattle.rules.specs.Limits.{mostInputs}
 use Rattle.arrivals.specs.Ends.{endsIn}
 use Rattle.arrivals.specs.Wires.{WiresAt, firstTimes, arrival-inputs-none, inputs-more}
@@ -35,7 +32,8 @@ loop-again : tie.Need-loop-again Inv-loop μ-loop
 loop-again c =
     let turn = at-turn c in
     let times = at-start (turn .before) .args .times in (
-      inputs-more (times .from) (times .to) _ _ (turn .before .loop .inv .0) (omega (arith, few turn)) _ (c .ends-of .ensures ∙ ap endsIn (c .before .arrival-of .ensures)),
+      inputs-more (times .from) (times .to) _ _ (turn .before .loop .inv .0) (omega (arith, few turn)) _
+          (c .ends-of .ensures ∙ ap endsIn (c .before .arrival-of .ensures)),
       omega (arith, turn .loop-test .taken),
     )
 
@@ -43,11 +41,11 @@ returns : tie.Need-returns Inv-loop μ-loop
 returns c =
     let head = c .before in
     let all : head .loop .i ≡ at-start head .args .inputs = omega (arith, head .loop .inv .1, c .loop-test .left) in
-    subst (λ (n : ℕ). WiresAt (firstTimes (at-start head .args .times .from) n) (firstTimes (at-start head .args .times .to) n) (head .loop .ends)) all (head .loop .inv .0)
+    subst (λ (n : ℕ). WiresAt (firstTimes (at-start head .args .times .from) n) (firstTimes (at-start head .args .times .to) n) (head .loop .ends)) all
+    (head .loop .inv .0)
 
 pub input-ends-spec : {M : Type 1} → statement M
 input-ends-spec =
     tie.close (tie.spec Inv-loop μ-loop loop-holds (λ c. omega (arith, few c)) (λ c. omega (arith, few c)) (λ c. omega (arith, few c))
-    (λ c. omega (arith, few c)) (λ c κs. search needs) (λ c κs. search needs) (λ c. omega (arith, few (at-turn c)))
-    (λ c. omega (arith, few (at-turn c))) (λ c. omega (arith, few (at-turn c))) (λ c. omega (arith, at-turn c .loop-test .taken)) loop-again
-    returns)
+    (λ c. omega (arith, few c)) (λ c κs. search needs) (λ c κs. search needs) (λ c. omega (arith, few (at-turn c))) (λ c. omega (arith, few (at-turn c)))
+    (λ c. omega (arith, few (at-turn c))) (λ c. omega (arith, at-turn c .loop-test .taken)) loop-again returns)

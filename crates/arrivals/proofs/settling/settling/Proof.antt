@@ -1,9 +1,6 @@
 -- `arrivals::settling::settling` meets its contract. The loop's invariant: the inputs and the first k gates have their ends.
 -- Assumes nothing.
-use Prim.Native.Nat.{ℕ, _-_, _+_, _≤_, _<_}
-use mathlib.Core.Path.{_≡_, refl}
-use native.Mathlib.Omega.{arith}
-use borrow.Author.Needs.{needs}
+use Rattle.laws.specs.Prelude.{ℕ, _<_, _≤_, _+_, _-_, _≡_, refl, arith, needs}
 use Rattle.rules.specs.Limits.{mostDelay}
 use Rattle.rules.specs.Nets.Arrivals.{quarter}
 use Rattle.nets.specs.declared.forms.Net.{Net}
@@ -86,9 +83,8 @@ returns c =
 pub settling-spec : {M : Type 1} → statement M
 settling-spec =
     tie.close (tie.spec Inv-loop μ-loop (λ c κs. search needs) input-ends-requires loop-holds (λ c. omega (arith, step c)) (λ c. omega (arith, step c))
-    (λ c. omega (arith, step c)) (λ c. omega (arith, step c)) (λ c. omega (arith, step (c .before)))
-    (λ c. omega (arith, step (c .before))) (λ c. omega (arith, step (c .before)))
-    (λ c. omega (arith, step (c .before))) (λ c κs. search needs) (λ c. omega (arith, step (at-turn c))) (λ c. omega (arith, step (at-turn c)))
-    (λ c. omega (arith, step (at-turn c))) (λ c. omega (arith, step (at-turn c))) (λ c. omega (arith, at-turn c .if1 .taken)) loop-again
-    (λ c. omega (arith, wires (at-end c))) (λ c. omega (arith, wires (at-end c))) (λ c. omega (arith, wires (at-end c))) (λ c. omega (arith, wires (at-end c)))
-    returns)
+    (λ c. omega (arith, step c)) (λ c. omega (arith, step c)) (λ c. omega (arith, step (c .before))) (λ c. omega (arith, step (c .before)))
+    (λ c. omega (arith, step (c .before))) (λ c. omega (arith, step (c .before))) (λ c κs. search needs) (λ c. omega (arith, step (at-turn c)))
+    (λ c. omega (arith, step (at-turn c))) (λ c. omega (arith, step (at-turn c))) (λ c. omega (arith, step (at-turn c)))
+    (λ c. omega (arith, at-turn c .if1 .taken)) loop-again (λ c. omega (arith, wires (at-end c))) (λ c. omega (arith, wires (at-end c)))
+    (λ c. omega (arith, wires (at-end c))) (λ c. omega (arith, wires (at-end c))) returns)

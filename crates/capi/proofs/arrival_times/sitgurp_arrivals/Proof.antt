@@ -1,6 +1,5 @@
 -- `capi::arrival_times::sitgurp_arrivals` meets its contract: the call, its answer as three numbers and two doubles. Assumes nothing.
-use mathlib.Core.Path.{ap, _∙_}
-use borrow.Author.Needs.{needs}
+use Rattle.laws.specs.Prelude.{_∙_, ap, needs}
 use Rattle.capi.specs.Numbers.Timing.{flatTiming}
 use Rattle.capi.proofs.arrival_times.sitgurp_arrivals.Statement.{statement}
 use Rattle.capi.proofs.arrival_times.sitgurp_arrivals.Tie as tie

@@ -1,8 +1,7 @@
 -- `capi::check::sitgurp_check` meets its contract: it is the check, its verdict as four numbers. Assumes nothing.
-use mathlib.Core.Path.{ap, _∙_}
+use Rattle.laws.specs.Prelude.{_∙_, ap, needs}
 use Rattle.rules.specs.Calls.Checking.{Checked}
 use Rattle.capi.specs.Numbers.Verdict.{flatVerdict}
-use borrow.Author.Needs.{needs}
 use Rattle.capi.proofs.check.sitgurp_check.Statement.{statement}
 use Rattle.capi.proofs.check.sitgurp_check.Tie as tie
 

@@ -1,7 +1,6 @@
 -- `capi::gate_line::sitgurp_gate_line` meets its contract: it is the lister's turn as a kind and two numbers. Assumes nothing.
-use mathlib.Core.Path.{ap, _∙_}
+use Rattle.laws.specs.Prelude.{_∙_, ap, needs}
 use Rattle.capi.specs.Numbers.Turn.{flatTurn}
-use borrow.Author.Needs.{needs}
 use Rattle.capi.proofs.gate_line.sitgurp_gate_line.Statement.{statement}
 use Rattle.capi.proofs.gate_line.sitgurp_gate_line.Tie as tie
 

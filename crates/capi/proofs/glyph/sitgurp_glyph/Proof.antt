@@ -1,8 +1,7 @@
 -- `capi::glyph::sitgurp_glyph` meets its contract: it is the glyph call, its answer as two numbers. Assumes nothing.
-use mathlib.Core.Path.{ap, _∙_}
+use Rattle.laws.specs.Prelude.{_∙_, ap, needs}
 use Rattle.rules.specs.Calls.TableWriting.{Written}
 use Rattle.capi.specs.Numbers.Flat.{flatOf}
-use borrow.Author.Needs.{needs}
 use Rattle.capi.proofs.glyph.sitgurp_glyph.Statement.{statement}
 use Rattle.capi.proofs.glyph.sitgurp_glyph.Tie as tie
 

@@ -1,7 +1,6 @@
 -- `capi::job_mark::sitgurp_job_mark_parts` meets its contract: it is the job's answer as a kind and a number. Assumes nothing.
-use mathlib.Core.Path.{ap, _∙_}
+use Rattle.laws.specs.Prelude.{_∙_, ap, needs}
 use Rattle.capi.specs.Numbers.Reached.{flatReached}
-use borrow.Author.Needs.{needs}
 use Rattle.capi.proofs.job_mark.sitgurp_job_mark_parts.Statement.{statement}
 use Rattle.capi.proofs.job_mark.sitgurp_job_mark_parts.Tie as tie
 

@@ -1,10 +1,8 @@
 -- `capi::job_step::sitgurp_job_step_parts` meets its contract: the parts unchanged, or with the next group's mark. Assumes nothing.
-use mathlib.Core.Path.{subst}
-use native.Mathlib.Omega.{arith}
+use Rattle.laws.specs.Prelude.{subst, arith, needs}
 use Rattle.jobs.specs.Forms.{jobIn}
 use Rattle.jobs.specs.Stepping.{NextMark}
 use Rattle.capi.specs.JobStep.{next-room, flat-step-done, flat-step-on}
-use borrow.Author.Needs.{needs}
 use Rattle.capi.proofs.job_step.sitgurp_job_step_parts.Statement.{statement}
 use Rattle.capi.proofs.job_step.sitgurp_job_step_parts.Tie as tie
 
@@ -21,12 +19,22 @@ enum-told c = search needs
 add-g : tie.Need-add-g
 add-g c =
     let a = at-start (at-next c) .args in
-    omega (arith, next-room (a .lines .now) (a .cells .now) (a .marks .now) (a .passed .now) _ (subst (NextMark (jobIn (a .lines .now) (a .cells .now) (a .marks .now) (a .passed .now))) (c .before .found .given .1) (at-next c .next-mark .ensures)))
+    omega (
+      arith,
+      next-room (a .lines .now) (a .cells .now) (a .marks .now) (a .passed .now) _
+          (subst (NextMark (jobIn (a .lines .now) (a .cells .now) (a .marks .now) (a .passed .now))) (c .before .found .given .1)
+          (at-next c .next-mark .ensures)),
+    )
 
 element-write-marks : tie.Need-element-write-marks
 element-write-marks c =
     let a = at-start (at-next c) .args in
-    omega (arith, next-room (a .lines .now) (a .cells .now) (a .marks .now) (a .passed .now) _ (subst (NextMark (jobIn (a .lines .now) (a .cells .now) (a .marks .now) (a .passed .now))) (c .before .found .given .1) (at-next c .next-mark .ensures)))
+    omega (
+      arith,
+      next-room (a .lines .now) (a .cells .now) (a .marks .now) (a .passed .now) _
+          (subst (NextMark (jobIn (a .lines .now) (a .cells .now) (a .marks .now) (a .passed .now))) (c .before .found .given .1)
+          (at-next c .next-mark .ensures)),
+    )
 
 returns : tie.Need-returns
 returns c =

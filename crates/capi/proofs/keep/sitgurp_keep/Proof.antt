@@ -1,8 +1,7 @@
 -- `capi::keep::sitgurp_keep` meets its contract: it is the call, its answer as four numbers. Assumes nothing.
-use mathlib.Core.Path.{ap, _∙_}
+use Rattle.laws.specs.Prelude.{_∙_, ap, needs}
 use Rattle.rules.specs.Calls.Keeping.{KeptWiring}
 use Rattle.capi.specs.Numbers.Kept.{flatKept}
-use borrow.Author.Needs.{needs}
 use Rattle.capi.proofs.keep.sitgurp_keep.Statement.{statement}
 use Rattle.capi.proofs.keep.sitgurp_keep.Tie as tie
 

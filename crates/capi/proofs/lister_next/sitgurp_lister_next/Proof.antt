@@ -1,7 +1,6 @@
 -- `capi::lister_next::sitgurp_lister_next` meets its contract: the line at the position, and the position after it. Assumes nothing.
 use Rattle.capi.specs.Lister.{line-given, line-none}
-use native.Mathlib.Omega.{arith}
-use borrow.Author.Needs.{needs}
+use Rattle.laws.specs.Prelude.{arith, needs}
 use Rattle.capi.proofs.lister_next.sitgurp_lister_next.Statement.{statement}
 use Rattle.capi.proofs.lister_next.sitgurp_lister_next.Tie as tie
 

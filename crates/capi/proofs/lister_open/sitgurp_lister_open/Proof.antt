@@ -1,7 +1,6 @@
 -- `capi::lister_open::sitgurp_lister_open` meets its contract: it is the lister's opening as two numbers. Assumes nothing.
-use mathlib.Core.Path.{ap, _∙_}
+use Rattle.laws.specs.Prelude.{_∙_, ap, needs}
 use Rattle.capi.specs.Numbers.Flat.{flatOf}
-use borrow.Author.Needs.{needs}
 use Rattle.capi.proofs.lister_open.sitgurp_lister_open.Statement.{statement}
 use Rattle.capi.proofs.lister_open.sitgurp_lister_open.Tie as tie
 

@@ -1,8 +1,7 @@
 -- `capi::mark::sitgurp_marking` meets its contract: it is the marking call, its answer as two numbers. Assumes nothing.
-use mathlib.Core.Path.{ap, _∙_}
+use Rattle.laws.specs.Prelude.{_∙_, ap, needs}
 use Rattle.rules.specs.Calls.Marking.{Marked}
 use Rattle.capi.specs.Numbers.Flat.{flatOf}
-use borrow.Author.Needs.{needs}
 use Rattle.capi.proofs.mark.sitgurp_marking.Statement.{statement}
 use Rattle.capi.proofs.mark.sitgurp_marking.Tie as tie
 

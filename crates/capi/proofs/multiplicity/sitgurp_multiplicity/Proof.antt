@@ -1,7 +1,6 @@
 -- `capi::multiplicity::sitgurp_multiplicity` meets its contract: it is the multiplicity call, its answer as two numbers. Assumes nothing.
-use mathlib.Core.Path.{ap, _∙_}
+use Rattle.laws.specs.Prelude.{_∙_, ap, needs}
 use Rattle.capi.specs.Numbers.Flat.{flatOf}
-use borrow.Author.Needs.{needs}
 use Rattle.capi.proofs.multiplicity.sitgurp_multiplicity.Statement.{statement}
 use Rattle.capi.proofs.multiplicity.sitgurp_multiplicity.Tie as tie
 

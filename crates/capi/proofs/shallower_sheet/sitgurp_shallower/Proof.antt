@@ -1,10 +1,9 @@
 -- `capi::shallower_sheet::sitgurp_shallower` meets its contract: which sheet, as two numbers. Assumes nothing.
-use mathlib.Core.Path.{_≡_, sym, ap, _∙_}
+use Rattle.laws.specs.Prelude.{_≡_, _∙_, sym, ap, needs}
 use Rattle.rules.specs.Calls.Shallower as rules
 use Rattle.shallower.specs.declared.which.Which.{Which}
 use Rattle.shallower.specs.Which.{whichAs}
 use Rattle.capi.specs.Shallower.{flatWhich}
-use borrow.Author.Needs.{needs}
 use Rattle.capi.proofs.shallower_sheet.sitgurp_shallower.Statement.{statement}
 use Rattle.capi.proofs.shallower_sheet.sitgurp_shallower.Tie as tie
 
@@ -33,5 +32,4 @@ returns-3 c = due (c .before .before) _ (c .enum-told3 .given .1)
 
 pub sitgurp-shallower-spec : {M : Type 1} → statement M
 sitgurp-shallower-spec =
-    tie.close
-    (tie.spec (λ c κs. search needs) enum-told (λ c. search needs) (λ c. search needs) returns returns-2 returns-3)
+    tie.close (tie.spec (λ c κs. search needs) enum-told (λ c. search needs) (λ c. search needs) returns returns-2 returns-3)

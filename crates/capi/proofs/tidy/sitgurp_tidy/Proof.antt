@@ -1,8 +1,7 @@
 -- `capi::tidy::sitgurp_tidy` meets its contract: it is tidying, its answer as two numbers. Assumes nothing.
-use mathlib.Core.Path.{ap, _∙_}
+use Rattle.laws.specs.Prelude.{_∙_, ap, needs}
 use Rattle.rules.specs.Calls.Tidying.{Tidied}
 use Rattle.capi.specs.Numbers.Flat.{flatOf}
-use borrow.Author.Needs.{needs}
 use Rattle.capi.proofs.tidy.sitgurp_tidy.Statement.{statement}
 use Rattle.capi.proofs.tidy.sitgurp_tidy.Tie as tie
 

@@ -1,8 +1,7 @@
 -- `capi::write_table::sitgurp_write_table` meets its contract: it is table writing, its answer as two numbers. Assumes nothing.
-use mathlib.Core.Path.{ap, _∙_}
+use Rattle.laws.specs.Prelude.{_∙_, ap, needs}
 use Rattle.rules.specs.Calls.TableWriting.{Written}
 use Rattle.capi.specs.Numbers.Flat.{flatOf}
-use borrow.Author.Needs.{needs}
 use Rattle.capi.proofs.write_table.sitgurp_write_table.Statement.{statement}
 use Rattle.capi.proofs.write_table.sitgurp_write_table.Tie as tie
 

@@ -1,11 +1,5 @@
 -- `cells::bare::full_cells` meets its contract: each return is one of the definition's cases. Assumes nothing.
-use Prim.Native.Nat.{_^_}
-use mathlib.Core.Path.{_≡_, sym, _∙_}
-use mathlib.Core.Bool.{true}
-use native.Mathlib.Omega.{arith}
-use borrow.Author.Needs.{needs}
-use borrow.Author.Tests.{not-true, not-false}
-use lib.ListN.{length}
+use Rattle.laws.specs.Prelude.{_^_, _≡_, _∙_, sym, true, arith, length, not-true, not-false, needs}
 use Rattle.rules.specs.Limits.{sizeFits}
 use Rattle.laws.specs.Numbers.Sizes.{Size, sized}
 use Rattle.laws.specs.Calls.BareCells.{bare-size, bare-length, bare-cell, bare-good}
@@ -38,24 +32,26 @@ returns-2 c = cells-refused _ _ _ _ _ (bare-length _ _ _ (λ e. c .if2 .taken (e
 
 -- every cell is below m
 returns-3 : tie.Need-returns-3
-returns-3 c = let first = c .before in cells-full _ _ _ (fits (at-size first)) (long (first .before)) (λ p h. first .first-at-least .ensures .below p (omega arith))
+returns-3 c =
+    let first = c .before in cells-full _ _ _ (fits (at-size first)) (long (first .before)) (λ p h. first .first-at-least .ensures .below p (omega arith))
 
 -- a cell is above m, or none is and one is open
 returns-4 : tie.Need-returns-4
 returns-4 c =
     let first = c .before .before .before in
-    cells-refused _ _ _ _ _ (bare-cell _ _ _ (fits (at-size first)) (long (first .before)) _ (first-over _ _ _ (c .before .first-at-least2 .ensures)) (c .if4 .taken))
+    cells-refused _ _ _ _ _ (bare-cell _ _ _ (fits (at-size first)) (long (first .before)) _ (first-over _ _ _ (c .before .first-at-least2 .ensures))
+    (c .if4 .taken))
 
 returns-5 : tie.Need-returns-5
 returns-5 c =
     let over = c .before .first-at-least2 .ensures in
     let first = c .before .before .before in
-    first-open _ _ _ (first .first-at-least .ensures) (λ p h. omega (arith, over .below p (omega (arith, over .most, c .if4 .left)))) (c .before .before .if3 .left)
+    first-open _ _ _ (first .first-at-least .ensures) (λ p h. omega (arith, over .below p (omega (arith, over .most, c .if4 .left))))
+    (c .before .before .if3 .left)
     ∙ cells-judged _ _ _ (bare-good _ _ _ (fits (at-size first)) (long (first .before)) _ (first-over _ _ _ over) (c .if4 .left))
 
 pub full-cells-spec : {M : Type 1} → statement M
 full-cells-spec =
-    tie.close
-    (tie.spec (λ c κs. search needs) returns (λ c κs. omega (arith, size c .levels-most, size c .inputs-most)) returns-2
+    tie.close (tie.spec (λ c κs. search needs) returns (λ c κs. omega (arith, size c .levels-most, size c .inputs-most)) returns-2
     (λ c κs. omega (arith, size (c .before .before) .levels-most)) returns-3 (λ c. omega (arith, size (at-size (c .before)) .levels-most))
     (λ c κs. omega (arith, size (at-size (c .before)) .levels-most)) returns-4 returns-5)

@@ -1,10 +1,6 @@
 -- `cells::bound::first_at_least` meets its contract. The loop's invariant: every cell so far is below the bound. Assumes nothing.
-use Prim.Native.Nat.{ℕ, _-_, _≤_, _<_}
-use native.Mathlib.Omega.{arith}
+use Rattle.laws.specs.Prelude.{ℕ, _<_, _≤_, _-_, arith, length, getD, not-true, needs}
 use borrow.Author.Count.{below-more}
-use borrow.Author.Needs.{needs}
-use borrow.Author.Tests.{not-true}
-use lib.ListN.{length, getD}
 use Rattle.cells.proofs.bound.first_at_least.Statement.{statement}
 use Rattle.cells.proofs.bound.first_at_least.Tie as tie
 
@@ -29,5 +25,4 @@ returns-3 c = let loop = c .before .loop in record { most = loop .inv .0; below 
 pub first-at-least-spec : {M : Type 1} → statement M
 first-at-least-spec =
     tie.close (tie.spec Inv-loop μ-loop (λ c κs. search needs) returns (λ c. (omega arith, λ p h. absurd (omega arith))) (λ c. omega arith)
-    (λ c. omega (arith, c .shared-slice-known2 .given (c .before .before .loop .k))) returns-2 (λ c. omega arith) (λ c. omega arith)
-    loop-again returns-3)
+    (λ c. omega (arith, c .shared-slice-known2 .given (c .before .before .loop .k))) returns-2 (λ c. omega arith) (λ c. omega arith) loop-again returns-3)

@@ -1,10 +1,9 @@
 -- `checking::check::check` meets its contract: the refusals of reading both sheets, then 13, then the net's table and the inks.
 -- Assumes nothing.
-use native.Mathlib.Omega.{arith}
+use Rattle.laws.specs.Prelude.{arith, needs}
 use Rattle.accepted.specs.Taken.{held-size, cells-some, sound, own-most, front-length}
 use Rattle.accepted.specs.Both.{both-long}
 use Rattle.checking.specs.Both.{check-refused, cells-short, cells-long}
-use borrow.Author.Needs.{needs}
 use Rattle.checking.proofs.check.check.Statement.{statement}
 use Rattle.checking.proofs.check.check.Tie as tie
 
@@ -68,7 +67,8 @@ returns-3 c =
     let tables = call-table (c .before .before .before) in
     let test = at-test tables in
     let told = at-told test in
-    cells-long _ _ _ _ _ (at-read told .read-both .ensures) (told .enum-told .given .1) _ (test .before .power .ensures) (test .if1 .left) _ _ _ (tables .table2 .ensures) _
+    cells-long _ _ _ _ _ (at-read told .read-both .ensures) (told .enum-told .given .1) _ (test .before .power .ensures) (test .if1 .left) _ _ _
+    (tables .table2 .ensures) _
     (c .before .before .compare-into .ensures)
 
 pub check-spec : {M : Type 1} → statement M

@@ -1,11 +1,6 @@
 -- `checking::same::all_same` meets its contract. The loop's invariant: if no difference was found, the two are the same below `i`. Assumes nothing.
-use Prim.Native.Nat.{ℕ, _-_, _<_}
-use mathlib.Core.Path.{_≡_, sym, _∙_}
-use mathlib.Core.Bool.{true}
-use mathlib.Core.Logic.{⊎-elim}
-use native.Mathlib.Omega.{arith}
+use Rattle.laws.specs.Prelude.{ℕ, _<_, _-_, _≡_, _∙_, sym, ⊎-elim, true, arith, length, getD}
 use borrow.Author.Count.{below-more}
-use lib.ListN.{length, getD}
 use Rattle.checking.proofs.same.all_same.Statement.{statement}
 use Rattle.checking.proofs.same.all_same.Tie as tie
 

@@ -1,10 +1,7 @@
 -- `checking::verdict::compare` meets its contract. The loop's invariant: the two agree at each index below `i` at which the table is not open.
 -- Assumes nothing.
-use Prim.Native.Nat.{_-_, _≤_}
-use native.Mathlib.Omega.{arith}
+use Rattle.laws.specs.Prelude.{_≤_, _-_, arith, length, needs}
 use borrow.Author.Count.{below-more}
-use borrow.Author.Needs.{needs}
-use lib.ListN.{length}
 use Rattle.checking.specs.Comparing.{AgreeTo, agree-all, differ-first}
 use Rattle.checking.proofs.verdict.compare.Statement.{statement}
 use Rattle.checking.proofs.verdict.compare.Tie as tie

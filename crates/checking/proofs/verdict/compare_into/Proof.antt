@@ -23,4 +23,5 @@ returns-2 c =
     inks-compared _ _ _ _ _ _ (at-start copy .pre .2) (copy .copy .ensures) _ (c .compare .ensures)
 
 pub compare-into-spec : {M : Type 1} → statement M
-compare-into-spec = tie.close (tie.spec (λ c κs. search needs) (λ c κs. search needs) (λ c. search needs) returns (λ c κs. search needs) (λ c. search needs) returns-2)
+compare-into-spec =
+    tie.close (tie.spec (λ c κs. search needs) (λ c κs. search needs) (λ c. search needs) returns (λ c κs. search needs) (λ c. search needs) returns-2)

@@ -1,6 +1,5 @@
 -- `checking::verdict::differs` meets its contract: equal inks, or whether the table's cell is open. Assumes nothing.
-use mathlib.Core.Bool.{false≢true}
-use borrow.Author.Tests.{eqb-true, eqb-false, not-true, not-false}
+use Rattle.laws.specs.Prelude.{false≢true, eqb-true, eqb-false, not-true, not-false}
 use Rattle.checking.proofs.verdict.differs.Statement.{statement}
 use Rattle.checking.proofs.verdict.differs.Tie as tie
 

@@ -1,8 +1,7 @@
 -- `classes::alike::alike` meets its contract: the two are alike if no difference is found. Assumes nothing.
-use mathlib.Core.Path.{sym, ap, _∙_}
+use Rattle.laws.specs.Prelude.{_∙_, sym, ap, needs}
 use Rattle.trees.specs.Groups.Differences.{none-differ, some-unlike}
 use Rattle.classes.specs.Differences.{differenceAs}
-use borrow.Author.Needs.{needs}
 use Rattle.classes.proofs.alike.alike.Statement.{statement}
 use Rattle.classes.proofs.alike.alike.Tie as tie
 

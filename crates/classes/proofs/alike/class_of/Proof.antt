@@ -1,10 +1,6 @@
 -- `classes::alike::class_of` meets its contract. The loop's invariant: none of the first j is alike. Assumes nothing.
-use Prim.Native.Nat.{ℕ, _-_, _≤_, _<_}
-use mathlib.Core.Path.{_≡_, sym, _∙_}
-use mathlib.Core.Bool.{false}
-use native.Mathlib.Omega.{arith}
+use Rattle.laws.specs.Prelude.{ℕ, _<_, _≤_, _-_, _≡_, _∙_, sym, false, arith, getD}
 use borrow.Author.Count.{below-more}
-use lib.ListN.{getD}
 use Rattle.rules.specs.Calls.Answers.{inkIn}
 use Rattle.rules.specs.Groups.Groups.{alikeOver}
 use Rattle.classes.specs.Firsts.{search-is}

@@ -1,11 +1,7 @@
 -- `classes::counting::class_firsts` meets its contract. The loop's invariant: what is kept and the assignments not yet visited give the classes of
 -- all; each that is kept is in the chain of its key.
 -- Assumes nothing.
-use Prim.Native.Nat.{ℕ, _-_, _<_}
-use mathlib.Core.Path.{_≡_, refl, _∙_}
-use mathlib.Core.Bool.{true, false}
-use native.Mathlib.Omega.{arith}
-use lib.ListN.{length, getD, take, length-set}
+use Rattle.laws.specs.Prelude.{ℕ, _<_, _-_, _≡_, _∙_, refl, true, false, arith, length, getD, take, length-set}
 use Rattle.rules.specs.Lists.{firstPlace}
 use Rattle.rules.specs.Groups.Groups.{alikeOver}
 use Rattle.rules.specs.Calls.Answers.{inkIn}
@@ -93,10 +89,12 @@ module _ (c : tie.After-in-chain Inv-loop μ-loop) where
   abbrev p : ℕ
   p = getD (at-start l .args .xs .now) (l .loop .i) 0
 
-  is-known : c .in-chain .result ≡ true → firstPlace (alikeOver (inkIn (at-start l .args .cells .now)) (at-start l .args .ys .now) p) (take (l .loop .count) (l .loop .firsts)) < l .loop .count
+  is-known : c .in-chain .result ≡ true → firstPlace (alikeOver (inkIn (at-start l .args .cells .now)) (at-start l .args .ys .now) p)
+      (take (l .loop .count) (l .loop .firsts)) < l .loop .count
   is-known = known _ _ _ _ (l .loop .inv .4) p _ (at-key c .key .ensures) (omega (arith, l .loop .inv .3 .few, l .loop .inv .3 .room)) (c .in-chain .ensures)
 
-  is-new : c .in-chain .result ≡ false → l .loop .count ≡ firstPlace (alikeOver (inkIn (at-start l .args .cells .now)) (at-start l .args .ys .now) p) (take (l .loop .count) (l .loop .firsts))
+  is-new : c .in-chain .result ≡ false → l .loop .count ≡ firstPlace (alikeOver (inkIn (at-start l .args .cells .now)) (at-start l .args .ys .now) p)
+      (take (l .loop .count) (l .loop .firsts))
   is-new = unknown _ _ _ _ (l .loop .inv .4) p _ (at-key c .key .ensures) (omega (arith, l .loop .inv .3 .few, l .loop .inv .3 .room)) (c .in-chain .ensures)
 
   -- there is room for one more
@@ -128,9 +126,10 @@ returns-2 c = kept-all (c .before .loop .inv .3) (c .loop-test .left)
 
 pub class-firsts-spec : {M : Type 1} → statement M
 class-firsts-spec =
-    tie.close
-    (tie.spec Inv-loop μ-loop loop-holds (λ c. c .before .before .loop .inv .0) (λ c. c .before .before .loop .inv .1) (λ c. c .before .before .loop .inv .2) returns
-    (λ c. omega arith) (λ c. omega arith) cast-key key-requires (λ c. omega (arith, has-head c)) (λ c. has-head (c .before)) cast-in-chain cast-in-chain-2 in-chain-requires (λ c. omega arith)
-    (λ c. omega arith) loop-again (λ c. omega (arith, room (c .before) .2)) (λ c. room (c .before) .0) (λ c. omega (arith, room (c .before) .2)) (λ c. room (c .before) .1)
-    (λ c. omega (arith, room (c .before) .2)) (λ c. omega (arith, room (c .before) .2)) (λ c. omega (arith, has-head (at-key (c .before)))) (λ c. has-head (at-key (c .before))) (λ c. omega arith) (λ c. omega arith) loop-again-2
-    (λ c. c .before .loop .inv .0) (λ c. c .before .loop .inv .1) (λ c. c .before .loop .inv .2) returns-2)
+    tie.close (tie.spec Inv-loop μ-loop loop-holds (λ c. c .before .before .loop .inv .0) (λ c. c .before .before .loop .inv .1)
+    (λ c. c .before .before .loop .inv .2) returns (λ c. omega arith) (λ c. omega arith) cast-key key-requires (λ c. omega (arith, has-head c))
+    (λ c. has-head (c .before)) cast-in-chain cast-in-chain-2 in-chain-requires (λ c. omega arith) (λ c. omega arith) loop-again
+    (λ c. omega (arith, room (c .before) .2)) (λ c. room (c .before) .0) (λ c. omega (arith, room (c .before) .2)) (λ c. room (c .before) .1)
+    (λ c. omega (arith, room (c .before) .2)) (λ c. omega (arith, room (c .before) .2)) (λ c. omega (arith, has-head (at-key (c .before))))
+    (λ c. has-head (at-key (c .before))) (λ c. omega arith) (λ c. omega arith) loop-again-2 (λ c. c .before .loop .inv .0) (λ c. c .before .loop .inv .1)
+    (λ c. c .before .loop .inv .2) returns-2)

@@ -1,10 +1,10 @@
 -- `classes::counting::more_classes_than_levels` meets its contract: the count is above m exactly if there are more classes. Assumes nothing.
-use native.Mathlib.Omega.{arith}
-use borrow.Author.Needs.{needs}
+use Rattle.laws.specs.Prelude.{arith, needs}
 use Rattle.rules.specs.Groups.Groups.{classes, multiplicity}
 use Rattle.rules.specs.Calls.Answers.{inkIn}
 use Rattle.classes.specs.Chains.{no-chains}
 use Rattle.classes.specs.Firsts.{front-test}
+use Rattle.classes.specs.Within.{group-room}
 use Rattle.classes.proofs.counting.more_classes_than_levels.Statement.{statement}
 use Rattle.classes.proofs.counting.more_classes_than_levels.Tie as tie
 
@@ -15,8 +15,16 @@ at-start c = c .before .before .before .before .before .before .before .before .
 group-firsts-requires : tie.Need-group-firsts-requires
 group-firsts-requires c κs =
     let start = c .before .before .before .before .before .before .before .before in
-    let pre = start .pre in
-    (pre .0, pre .1, omega (arith, pre .1), omega (arith, pre .1), omega (arith, pre .1), no-chains 1, record { one = omega arith; all = λ h. absurd (omega arith) }, pre .2)
+    let pre = start .pre in (
+      group-room (pre .0) (start .args .g),
+      pre .1,
+      omega (arith, pre .1),
+      omega (arith, pre .1),
+      omega (arith, pre .1),
+      no-chains 1,
+      record { one = omega arith; all = λ h. absurd (omega arith) },
+      pre .2,
+    )
 
 returns : tie.Need-returns
 unfolding multiplicity
@@ -27,6 +35,5 @@ returns c =
 
 pub more-classes-than-levels-spec : {M : Type 1} → statement M
 more-classes-than-levels-spec =
-    tie.close
-    (tie.spec (λ c. search needs) (λ c. search needs) (λ c. search needs) (λ c. search needs) group-firsts-requires (λ c. search needs) (λ c. search needs)
-    returns)
+    tie.close (tie.spec (λ c. search needs) (λ c. search needs) (λ c. search needs) (λ c. search needs) group-firsts-requires (λ c. search needs)
+    (λ c. search needs) returns)

@@ -1,13 +1,7 @@
 -- `classes::differences::first_difference` meets its contract. The loop begins where the inks are no longer known to be the same. Its invariant: the
 -- remaining places decide. Assumes nothing.
-use Prim.Native.Nat.{ℕ, _+_, _-_, _≤_, _<_}
-use mathlib.Core.Path.{_≡_, sym, ap, _∙_}
-use mathlib.Core.Bool.{not}
+use Rattle.laws.specs.Prelude.{ℕ, _<_, _≤_, _+_, _-_, _≡_, _∙_, sym, ap, not, sub-zero, arith, length, getD, eq-eqb, ne-eqb}
 use mathlib.Core.Option.{Option}
-use native.Mathlib.Nat.{sub-zero}
-use native.Mathlib.Omega.{arith}
-use borrow.Author.Tests.{eq-eqb, ne-eqb}
-use lib.ListN.{length, getD}
 use Rattle.laws.specs.Lists.Walks.{find-next, find-stop, find-end}
 use Rattle.rules.specs.Calls.Answers.{inkIn}
 use Rattle.rules.specs.Groups.Differences.{differAt, differenceOver}
@@ -71,7 +65,6 @@ returns-2 c = sym (find-end _ (c .before .loop .k) (length (at-start (c .before)
 
 pub first-difference-spec : {M : Type 1} → statement M
 first-difference-spec =
-    tie.close
-    (tie.spec Inv-loop μ-loop (λ c κs. c .before .before .pre) loop-holds (λ c. omega arith) (λ c. omega arith) cast-y
+    tie.close (tie.spec Inv-loop μ-loop (λ c κs. c .before .before .pre) loop-holds (λ c. omega arith) (λ c. omega arith) cast-y
     (λ c. omega (arith, in-cells (at-turn c))) (λ c. in-cells (at-turn (c .before)) .0) (λ c. omega (arith, in-cells (at-turn (c .before))))
     (λ c. in-cells (turn-reads c) .1) returns (λ c. omega arith) (λ c. omega arith) loop-again returns-2)

@@ -1,7 +1,5 @@
 -- `classes::differences::four_same` meets its contract. Assumes nothing.
-use mathlib.Core.Path.{_∙_, ap}
-use mathlib.Core.Bool.{not, false≢true}
-use borrow.Author.Needs.{needs}
+use Rattle.laws.specs.Prelude.{_∙_, ap, not, false≢true, needs}
 use Rattle.classes.proofs.Sames.{four}
 use Rattle.classes.proofs.differences.four_same.Statement.{statement}
 use Rattle.classes.proofs.differences.four_same.Tie as tie
@@ -30,11 +28,11 @@ returns-4 c e =
     let third = third-of c in
     let second = second-of third in
     let first = first-of second in
-    four _ _ (first .same-at .ensures ∙ second .before .if1 .left) (second .same-at2 .ensures ∙ third .before .if2 .left) (third .same-at3 .ensures ∙ c .before .if3 .left)
+    four _ _ (first .same-at .ensures ∙ second .before .if1 .left) (second .same-at2 .ensures ∙ third .before .if2 .left)
+    (third .same-at3 .ensures ∙ c .before .if3 .left)
     (c .same-at4 .ensures ∙ ap not e)
 
 pub four-same-spec : {M : Type 1} → statement M
 four-same-spec =
-    tie.close
-    (tie.spec (λ c κs. search needs) returns (λ c. search needs) (λ c κs. search needs) returns-2 (λ c. search needs) (λ c κs. search needs)
+    tie.close (tie.spec (λ c κs. search needs) returns (λ c. search needs) (λ c κs. search needs) returns-2 (λ c. search needs) (λ c κs. search needs)
     returns-3 (λ c. search needs) (λ c κs. search needs) returns-4)

@@ -1,9 +1,5 @@
 -- `classes::differences::same_at` meets its contract. Assumes nothing.
-use Prim.Native.Nat.{_+_, _<_}
-use mathlib.Core.Path.{refl}
-use native.Mathlib.Omega.{arith}
-use borrow.Author.Needs.{needs}
-use lib.ListN.{length, getD}
+use Rattle.laws.specs.Prelude.{_<_, _+_, refl, arith, length, getD, needs}
 use Rattle.rules.specs.Groups.Differences.{differAt}
 use Rattle.classes.proofs.differences.same_at.Statement.{statement}
 use Rattle.classes.proofs.differences.same_at.Tie as tie

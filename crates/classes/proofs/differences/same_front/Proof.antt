@@ -1,10 +1,5 @@
 -- `classes::differences::same_front` meets its contract. The loop's invariant: the inks are the same at every place so far. Assumes nothing.
-use Prim.Native.Nat.{ℕ, _-_, _≤_, _<_}
-use mathlib.Core.Path.{_≡_}
-use mathlib.Core.Bool.{false}
-use native.Mathlib.Omega.{arith}
-use borrow.Author.Tests.{not-false}
-use lib.ListN.{length}
+use Rattle.laws.specs.Prelude.{ℕ, _<_, _≤_, _-_, _≡_, false, arith, length, not-false}
 use Rattle.rules.specs.Calls.Answers.{inkIn}
 use Rattle.rules.specs.Groups.Differences.{differAt}
 use Rattle.classes.proofs.Sames.{further}

@@ -1,8 +1,5 @@
 -- `classes::keys::in_chain` meets its contract. The loop's invariant: if one in the chain is alike to p, it is in the rest. Assumes nothing.
-use Prim.Native.Nat.{_-_, _≤_, _<_}
-use mathlib.Core.Path.{sym, _∙_}
-use native.Mathlib.Omega.{arith}
-use lib.ListN.{getD}
+use Rattle.laws.specs.Prelude.{_<_, _≤_, _-_, _∙_, sym, arith, getD}
 use Rattle.rules.specs.Calls.Answers.{inkIn}
 use Rattle.rules.specs.Groups.Groups.{alikeOver}
 use Rattle.classes.specs.Chains.{Rest, rest-next, search-found, search-missed}
@@ -54,7 +51,8 @@ module _ (c : tie.After-shared-slice-known6 Inv-loop μ-loop) where
 loop-again : tie.Need-loop-again Inv-loop μ-loop
 loop-again c = let a = at-start (l c) .args in (
   omega (arith, back c, inside c),
-  rest-next (alikeOver (inkIn (a .cells .now)) (a .ys .now) (a .p)) (a .firsts .now) (a .links .now) (a .head) (l c .loop .at) (l c .loop .at - 1) (omega (arith, c .before .before .before .before .loop-test .taken)) (l c .loop .inv .1)
+  rest-next (alikeOver (inkIn (a .cells .now)) (a .ys .now) (a .p)) (a .firsts .now) (a .links .now) (a .head) (l c .loop .at) (l c .loop .at - 1)
+      (omega (arith, c .before .before .before .before .loop-test .taken)) (l c .loop .inv .1)
       (sym (c .before .before .alike .ensures) ∙ c .before .if1 .left),
 )
 
@@ -63,6 +61,6 @@ returns-2 c = search-missed _ _ _ _ (c .before .loop .at) (omega (arith, c .loop
 
 pub in-chain-spec : {M : Type 1} → statement M
 in-chain-spec =
-    tie.close
-    (tie.spec Inv-loop μ-loop (λ c. (omega arith, λ j h e. h)) (λ c. omega arith) (λ c. omega (arith, c .before .loop .inv .0)) (λ c. omega (arith, c .before .before .loop .inv .0, c .before .loop-test .taken)) cast-alike alike-requires returns
+    tie.close (tie.spec Inv-loop μ-loop (λ c. (omega arith, λ j h e. h)) (λ c. omega arith) (λ c. omega (arith, c .before .loop .inv .0))
+    (λ c. omega (arith, c .before .before .loop .inv .0, c .before .loop-test .taken)) cast-alike alike-requires returns
     (λ c. omega (arith, at-loop (c .before) .loop .inv .0)) (λ c. omega (arith, inside c)) cast-at (λ c. omega (arith, back c)) loop-again returns-2)

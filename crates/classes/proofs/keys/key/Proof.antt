@@ -1,10 +1,6 @@
 -- `classes::keys::key` meets its contract. The loop's invariant: the key so far and the remaining columns give the key. Assumes nothing.
-use Prim.Native.Nat.{ℕ, _+_, _-_, _*_, _%_, _≤_, _<_}
-use mathlib.Core.Path.{_≡_, refl, sym, ap, _∙_}
-use native.Mathlib.Nat.{mul-le-mul}
-use native.Mathlib.Omega.{arith}
-use lib.ListN.{length, getD, take, drop, drop-of-length-le}
-use lib.Seq.{length-take-le, getD-take}
+use Rattle.laws.specs.Prelude.{ℕ, _<_, _≤_, _+_, _-_, _*_, _%_, _≡_, _∙_, sym, ap, refl, mul-le-mul, arith, length, getD, take, drop, drop-of-length-le}
+use Rattle.laws.specs.Prelude.{length-take-le, getD-take}
 use Rattle.rules.specs.Calls.Answers.{inkIn}
 use Rattle.classes.specs.Keys.{keyBound, keyFrom, keyOf}
 use Rattle.classes.proofs.KeyMaking.{key-next}
@@ -63,7 +59,8 @@ module _ (c : tie.After-shared-slice-known2 Inv-loop μ-loop) where
       let columns = take (a .width) (a .ys .now) in
       ap (λ (y : ℕ). keyFrom (a .m) (inkIn (a .cells .now)) (a .p) ((l .made * a .m + inkIn (a .cells .now) (a .p + y)) % 256) (drop (l .k + 1) columns))
       (sym (getD-take (a .width) (a .ys .now) (l .k) 0 (at-turn c .loop-test .taken)))
-      ∙ key-next (a .m) (inkIn (a .cells .now)) (a .p) (l .made) columns (l .k) (omega (arith, length-take-le (a .width) (a .ys .now) (start .pre .1), at-turn c .loop-test .taken))
+      ∙ key-next (a .m) (inkIn (a .cells .now)) (a .p) (l .made) columns (l .k)
+      (omega (arith, length-take-le (a .width) (a .ys .now) (start .pre .1), at-turn c .loop-test .taken))
       ∙ l .inv .1
 
 loop-again : tie.Need-loop-again Inv-loop μ-loop
@@ -82,6 +79,5 @@ returns c =
 
 pub key-spec : {M : Type 1} → statement M
 key-spec =
-    tie.close
-    (tie.spec Inv-loop μ-loop loop-holds (λ c. omega arith) (λ c. omega arith) cast-y mul-made (λ c. omega (arith, in-cells (c .before))) (λ c. in-cells (at-turn c))
-    (λ c. omega (arith, byte c)) (λ c. omega (arith, byte c, small c)) (λ c. omega arith) (λ c. omega arith) loop-again returns)
+    tie.close (tie.spec Inv-loop μ-loop loop-holds (λ c. omega arith) (λ c. omega arith) cast-y mul-made (λ c. omega (arith, in-cells (c .before)))
+    (λ c. in-cells (at-turn c)) (λ c. omega (arith, byte c)) (λ c. omega (arith, byte c, small c)) (λ c. omega arith) (λ c. omega arith) loop-again returns)

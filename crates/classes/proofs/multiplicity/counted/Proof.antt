@@ -1,13 +1,11 @@
 -- `classes::multiplicity::counted` meets its contract: the work arrays have room for the classes.
 -- Assumes nothing.
-use native.Mathlib.Omega.{arith}
-use lib.ListN.{length}
+use Rattle.laws.specs.Prelude.{arith, length, needs}
 use Rattle.rules.specs.Groups.Groups.{classes, multiplicity}
 use Rattle.rules.specs.Calls.Answers.{inkIn}
 use Rattle.laws.specs.Numbers.Sizes.{sized}
 use Rattle.classes.specs.Chains.{no-chains}
 use Rattle.classes.specs.Firsts.{classes-fit, front-all}
-use borrow.Author.Needs.{needs}
 use Rattle.classes.proofs.multiplicity.counted.Statement.{statement}
 use Rattle.classes.proofs.multiplicity.counted.Tie as tie
 
@@ -24,9 +22,9 @@ group-firsts-requires c κs =
         for-ys = start .pre .4;
       },
       fit .levels-most,
-      omega (arith, start .pre .1, start .pre .5),
-      omega (arith, start .pre .1, start .pre .6),
-      omega (arith, start .pre .1, fit .cells-most),
+      start .pre .5,
+      start .pre .6,
+      start .pre .7,
       no-chains 256,
       record { one = omega arith; all = λ _. omega arith },
       start .pre .2,
@@ -40,9 +38,9 @@ returns c =
     let a = start .args in
     let fit = sized (a .m) (a .n) (start .pre .0) in
     let all = classes-fit (a .m) (a .n) (omega (arith, fit .levels-least)) (inkIn (a .cells .now)) (a .group) in
-    front-all (length (a .cells .now)) (classes (a .m) (a .n) (inkIn (a .cells .now)) (a .group)) (call .group-firsts .ensures) (omega (arith, all, start .pre .1)) .count
+    front-all (length (a .xs .now)) (classes (a .m) (a .n) (inkIn (a .cells .now)) (a .group)) (call .group-firsts .ensures)
+    (omega (arith, all, start .pre .3)) .count
 
 pub counted-spec : {M : Type 1} → statement M
 counted-spec =
-    tie.close
-    (tie.spec (λ c. search needs) group-firsts-requires (λ c. search needs) (λ c. search needs) (λ c. search needs) (λ c. search needs) returns)
+    tie.close (tie.spec (λ c. search needs) group-firsts-requires (λ c. search needs) (λ c. search needs) (λ c. search needs) (λ c. search needs) returns)

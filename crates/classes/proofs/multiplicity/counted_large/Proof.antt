@@ -1,15 +1,22 @@
 -- `classes::multiplicity::counted_large` meets its contract: its arrays are long enough for any table. Assumes nothing.
-use native.Mathlib.Omega.{arith}
+use Rattle.laws.specs.Prelude.{ℕ, _≤_, _^_, le-trans, pow-le-pow-right, arith, needs}
+use Rattle.rules.specs.Limits.{mostCells}
+use Rattle.rules.specs.Groups.Groups.{size}
 use Rattle.laws.specs.Numbers.Sizes.{sized}
-use borrow.Author.Needs.{needs}
+use Rattle.trees.specs.Groups.Members.{size-le}
 use Rattle.classes.proofs.multiplicity.counted_large.Statement.{statement}
 use Rattle.classes.proofs.multiplicity.counted_large.Tie as tie
+
+-- any group has room
+room : (c : tie.Start) (g : ℕ) → c .args .m ^ size (c .args .n) g ≤ mostCells
+room c g =
+    let fit = sized (c .args .m) (c .args .n) (c .pre .0) in
+    le-trans (pow-le-pow-right (omega (arith, fit .levels-least)) (size-le (c .args .n) g)) (fit .cells-most)
 
 counted-requires : tie.Need-counted-requires
 counted-requires c κs =
     let start = c .before .before .before .before .before in
-    let fit = sized (start .args .m) (start .args .n) (start .pre .0) in
-    (start .pre .0, start .pre .1, start .pre .2, fit .cells-most, fit .cells-most, fit .cells-most, fit .cells-most)
+    (start .pre .0, start .pre .1, start .pre .2, room start _, room start _, omega arith, omega arith, omega arith)
 
 pub counted-large-spec : {M : Type 1} → statement M
 counted-large-spec =

@@ -1,10 +1,9 @@
 -- `classes::multiplicity::multiplicity` meets its contract: the refusal of the bare cells, or the group's answer.
 -- Assumes nothing.
-use mathlib.Core.Path.{sym, ap, _∙_}
+use Rattle.laws.specs.Prelude.{_∙_, sym, ap, needs}
 use Rattle.answers.specs.AnswerMaps.{outcomeAs}
 use Rattle.laws.specs.Calls.OpenCells.{cells-sized}
 use Rattle.laws.specs.Calls.Multiplicity.{multiplicity-refused, multiplicity-judged}
-use borrow.Author.Needs.{needs}
 use Rattle.classes.proofs.multiplicity.multiplicity.Statement.{statement}
 use Rattle.classes.proofs.multiplicity.multiplicity.Tie as tie
 
@@ -18,7 +17,8 @@ returns : tie.Need-returns
 returns c = multiplicity-refused _ _ _ _ _ _ (sym (ap (outcomeAs tt) (c .before .judged .given .1)) ∙ c .before .before .before .full-cells .ensures)
 
 returns-2 : tie.Need-returns-2
-returns-2 c = c .group-answer .ensures ∙ multiplicity-judged _ _ _ _ (sym (ap (outcomeAs tt) (c .before .enum-told .given .1)) ∙ c .before .before .before .full-cells .ensures)
+returns-2 c = c .group-answer .ensures ∙ multiplicity-judged _ _ _ _
+    (sym (ap (outcomeAs tt) (c .before .enum-told .given .1)) ∙ c .before .before .before .full-cells .ensures)
 
 pub multiplicity-spec : {M : Type 1} → statement M
 multiplicity-spec =

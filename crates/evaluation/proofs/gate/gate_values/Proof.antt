@@ -8,4 +8,5 @@ returns c = rw (c .before .before .before .before .if1 .taken) (c .before .befor
 
 pub gate-values-spec : {M : Type 1} → statement M
 gate-values-spec =
-    tie.close (tie.spec (λ c κs. rw (c .before .if1 .taken) at (c .before .before .before .before .pre)) (λ c. search needs) returns (λ c κs. search needs) (λ c. search needs) (λ c. search needs))
+    tie.close (tie.spec (λ c κs. rw (c .before .if1 .taken) at (c .before .before .before .before .pre)) (λ c. search needs) returns (λ c κs. search needs)
+    (λ c. search needs) (λ c. search needs))

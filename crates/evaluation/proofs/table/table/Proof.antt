@@ -1,151 +1,92 @@
--- `evaluation::table::table` meets its contract. The loop's invariant: the first q blocks have their values, and `levels` has the first inputs'
--- levels in the next one. Assumes nothing.
-use Prim.Native.Nat.{ℕ, _-_, _^_, _≤_, _<_}
-use mathlib.Core.Path.{_≡_, refl, sym, ap, _∙_}
-use native.Mathlib.Nat.{pow-le-pow-right}
-use native.Mathlib.Omega.{arith}
-use borrow.Author.Needs.{needs}
-use Rattle.nets.specs.Sound.{sound-size, net-levels-pos}
-use Rattle.evaluation.specs.TableBlocks.{TableReady, BlocksDone, blocks-none, block-ready, blocks-more, count-fits, table-done}
+-- `evaluation::table::table` meets its contract: the lists of the inputs, of the gates and of the last gate's left, and the cells from these.
+-- Assumes nothing.
+use Rattle.laws.specs.Prelude.{_<_, _≤_, _-_, _*_, mul-le-mul, arith, getD, needs}
+use Rattle.nets.specs.declared.forms.Net.{Net}
+use Rattle.nets.specs.Room.{mostGates, mostWires}
+use Rattle.nets.specs.References.{GateStep, gate-step}
+use Rattle.nets.specs.Sound.{Sound, sound-size, net-levels-pos, gates-pos}
+use Rattle.evaluation.specs.Lists.Gates.{list-room}
+use Rattle.evaluation.specs.Lists.Tables.{paint-ready, table-done}
 use Rattle.evaluation.proofs.table.table.Statement.{statement}
 use Rattle.evaluation.proofs.table.table.Tie as tie
 
-abbrev Inv-loop : tie.InvT-loop
-Inv-loop net cells₀ m low high blocks starts wires₀ count levels₀ q₀ cells wires levels q = BlocksDone net high count cells₀ q wires levels cells
+-- the start from the first list, and each call from the next
+abbrev at-start : tie.After-lists → tie.Start
+at-start c = c .before .before
 
-abbrev μ-loop : tie.MeasureT-loop
-μ-loop net cells₀ m low high blocks starts wires₀ count levels₀ q₀ cells wires levels q = blocks - q
+abbrev gates-start : tie.After-lay-gates → tie.Start
+gates-start c = at-start (c .before .before .before .before .before)
 
--- the start from the first call, and each call from the next
-abbrev low-start : tie.After-block-inputs Inv-loop μ-loop → tie.Start Inv-loop μ-loop
-low-start c = c .before .before
+abbrev spread-gates : tie.After-spread → tie.After-lay-gates
+spread-gates c = c .before .before .before
 
-abbrev power-low : tie.After-power Inv-loop μ-loop → tie.After-block-inputs Inv-loop μ-loop
-power-low c = c .before .before
+abbrev known-spread : tie.After-struct-known → tie.After-spread
+known-spread c = c .before .before .before .before .before .before
 
-abbrev laid-starts : tie.After-lay-low Inv-loop μ-loop → tie.After-starts-of Inv-loop μ-loop
-laid-starts c = c .before .before
+abbrev paint-order : tie.After-paint-arg → tie.After-shorter-outside
+paint-order c = c .before .before .before
 
-abbrev laid-power : tie.After-lay-low Inv-loop μ-loop → tie.After-power Inv-loop μ-loop
-laid-power c = laid-starts c .before
+abbrev paint-spread : tie.After-paint-arg → tie.After-spread
+paint-spread c = known-spread (paint-order c .before)
 
-abbrev laid-low : tie.After-lay-low Inv-loop μ-loop → tie.After-block-inputs Inv-loop μ-loop
-laid-low c = power-low (laid-power c)
-
-abbrev laid-start : tie.After-lay-low Inv-loop μ-loop → tie.Start Inv-loop μ-loop
-laid-start c = low-start (laid-low c)
-
-abbrev head-laid : tie.At-loop Inv-loop μ-loop → tie.After-lay-low Inv-loop μ-loop
-head-laid c = c .before .before
-
-abbrev block-turn : tie.After-block Inv-loop μ-loop → tie.In-loop Inv-loop μ-loop
-block-turn c = c .before .before .before .before
-
-abbrev known-block : tie.After-levels2 Inv-loop μ-loop → tie.After-block Inv-loop μ-loop
-known-block c = c .before .before .before .before
-
-abbrev end-block : tie.After-levels3 Inv-loop μ-loop → tie.After-block Inv-loop μ-loop
-end-block c = known-block (c .before .before)
-
-abbrev end-turn : tie.After-levels3 Inv-loop μ-loop → tie.In-loop Inv-loop μ-loop
-end-turn c = block-turn (end-block c)
-
-block-inputs-requires : tie.Need-block-inputs-requires Inv-loop μ-loop
-block-inputs-requires c κs = let size = sound-size _ (c .before .pre .0) in (size .levels-most, size .inputs-most)
-
-power-requires : tie.Need-power-requires Inv-loop μ-loop
-power-requires c κs = let size = sound-size _ (low-start (c .before) .pre .0) in (size .levels-most, omega (arith, size .inputs-most))
-
-lay-low-requires : tie.Need-lay-low-requires Inv-loop μ-loop
-lay-low-requires c κs =
-    let low = power-low (c .before .before) in
-    let sound = low-start low .pre .0 in
+lay-inputs-requires : tie.Need-lay-inputs-requires
+lay-inputs-requires c κs =
+    let sound = at-start c .pre .0 in
     let size = sound-size _ sound in
     record {
       some = net-levels-pos _ sound;
       few = size .levels-most;
-      within = low .block-inputs .ensures .1;
-      room = omega (arith, low .block-inputs .ensures .0, size .inputs-most);
+      most = size .inputs-most;
+      small = size .cells-most;
+      room = omega (arith, list-room _ sound 0 (omega arith));
     }
 
--- what stays the same from block to block
-module _ (c : tie.After-lay-low Inv-loop μ-loop) where
-  abbrev low : ℕ
-  low = laid-low c .block-inputs .result
+-- the last gate, its references and its digits
+module _ (c : tie.After-spread) where
+  abbrev start : tie.Start
+  start = gates-start (spread-gates c)
 
-  abbrev inputs : ℕ
-  inputs = laid-start c .args .net .inputs
+  abbrev net : Net
+  net = start .args .net
 
-  rest : low ≡ inputs - (inputs - low)
-  rest = omega (arith, laid-low c .block-inputs .ensures .0)
+  abbrev sound : Sound net
+  sound = start .pre .0
 
-  ready : TableReady (laid-start c .args .net) (laid-starts c .starts-of .result) (inputs - low) (c .lay-low .result) (laid-start c .args .cells .now)
-  ready =
-      let given = laid-low c .block-inputs .ensures in
-      record {
-        sound = laid-start c .pre .0;
-        part = omega arith;
-        starts-are = laid-starts c .starts-of .ensures;
-        all = c .lay-low .ensures .all ∙ ap (λ (k : ℕ). laid-start c .args .net .levels ^ k) rest;
-        within = omega (arith, c .lay-low .ensures .all, given .1);
-        room = laid-start c .pre .1;
-      }
+  last : (0 < net .gates) × (net .gates - 1 < mostGates) × (getD (net .right) (net .gates - 1) 0 < mostWires)
+  last =
+      let some = gates-pos net sound in
+      let back : GateStep net (net .gates - 1) = gate-step net sound (net .gates - 1) (omega arith) in
+      omega (arith, back)
 
-loop-holds : tie.Need-loop-holds Inv-loop μ-loop
-loop-holds c =
-    let laid = c .before in
-    blocks-none _ _ _ _ _ (ready laid) _ _ (laid .lay-low .ensures .same) (λ k p h l. laid .lay-low .ensures .levels k p (omega (arith, rest laid)) l) refl
+  size : net .levels * net .levels ≤ 81
+  size = mul-le-mul (sound-size net sound .levels-most) (sound-size net sound .levels-most)
 
--- a turn's block is one of the table's
-turn-low : (c : tie.In-loop Inv-loop μ-loop) → let laid = head-laid (c .before) in c .before .loop .q < laid-start laid .args .net .levels ^ (inputs laid - low laid)
-turn-low c = omega (arith, c .loop-test .taken, laid-power (head-laid (c .before)) .power .ensures)
+  before-digits : (net .gates - 1) * (net .levels * net .levels) ≤ mostGates * 81
+  before-digits = let few : net .gates - 1 ≤ mostGates = omega (arith, last) in mul-le-mul few size
 
-block-requires : tie.Need-block-requires Inv-loop μ-loop
-block-requires c κs =
-    let turn = c .before .before .before in
-    let l = turn .before .loop in
-    block-ready _ _ _ _ _ (ready (head-laid (turn .before))) (l .q) (l .wires) (l .levels) (l .cells) (l .inv) (turn-low turn)
+paint-requires : tie.Need-paint-requires
+paint-requires c κs =
+    let spread = paint-spread c in
+    paint-ready (net spread) (sound spread) _ _ (spread-gates spread .lay-gates .ensures .wires) _ _ (spread .spread .ensures) _ (start spread .pre .1)
+    _ (paint-order c .shorter-outside .ensures)
 
-next-levels-requires : tie.Need-next-levels-requires Inv-loop μ-loop
-next-levels-requires c κs =
-    let head = block-turn (known-block c) .before in
-    let size = sound-size _ (laid-start (head-laid head) .pre .0) in
-    (omega (arith, size .levels-most), omega (arith, size .inputs-most, head .loop .inv .levels-long))
-
-add-q : tie.Need-add-q Inv-loop μ-loop
-add-q c =
-    let turn = end-turn c in
-    let laid = head-laid (turn .before) in
-    let sound = laid-start laid .pre .0 in
-    omega (arith, turn-low turn, pow-le-pow-right (net-levels-pos _ sound) (ready laid .part), sound-size _ sound .cells-most)
-
-loop-again : tie.Need-loop-again Inv-loop μ-loop
-loop-again c =
-    let turn = end-turn c in
-    let l = turn .before .loop in
-    blocks-more _ _ _ _ _ (ready (head-laid (turn .before))) (l .q) (l .wires) (l .levels) (l .cells) (l .inv) (turn-low turn) _ _ _
-    (end-block c .block .ensures) (c .before .next-levels .ensures)
-
--- no block is left
-end : (c : tie.After-loop Inv-loop μ-loop) → let laid = head-laid (c .before) in laid-start laid .args .net .levels ^ (inputs laid - low laid) ≤ c .before .loop .q
-end c = omega (arith, c .loop-test .left, laid-power (head-laid (c .before)) .power .ensures)
-
-mul-result : tie.Need-mul-result Inv-loop μ-loop
-mul-result c =
-    let l = c .before .loop in
-    let laid = head-laid (c .before) in
-    omega (arith, count-fits _ _ _ _ _ (ready laid) (l .q) (l .wires) (l .levels) (l .cells) (l .inv) (end c), laid-start laid .good)
-
-returns : tie.Need-returns Inv-loop μ-loop
+returns : tie.Need-returns
 returns c =
-    let l = c .before .loop in
-    table-done _ _ _ _ _ (ready (head-laid (c .before))) (l .q) (l .wires) (l .levels) (l .cells) (l .inv) (end c)
+    let paint = c .before .before .before in
+    let spread = paint-spread (paint .before) in
+    rw (c .power .ensures)
+    (table-done (net spread) (sound spread) _ _ (spread-gates spread .lay-gates .ensures .wires) _ _ (spread .spread .ensures) _ (start spread .pre .1) _
+    (paint-order (paint .before) .shorter-outside .ensures) _ (paint .paint .ensures))
 
 pub table-spec : {M : Type 1} → statement M
 table-spec =
     tie.close
-    (tie.spec Inv-loop μ-loop block-inputs-requires (λ c. c .before .block-inputs .ensures .0) power-requires
-    (λ c κs. sound-size _ (low-start (power-low c) .pre .0) .inputs-most) (λ c. search needs) lay-low-requires loop-holds
-    (λ c. sym (c .before .before .loop .inv .levels-long)) (λ c. sym (c .before .before .before .loop .inv .long)) block-requires
-    (λ c. sym (block-turn (known-block c) .before .loop .inv .levels-long)) next-levels-requires add-q
-    (λ c. omega (arith, end-turn c .loop-test .taken)) loop-again mul-result (λ c. c .before .loop .inv .values .same) returns)
+    (tie.spec (λ c. search needs) lay-inputs-requires
+    (λ c κs. let size = sound-size _ (at-start (c .before .before) .pre .0) in (size .levels-most, size .inputs-most)) (λ c. search needs)
+    (λ c κs. search needs) (λ c. search needs) (λ c κs. search needs) (λ c. last (known-spread c) .0) (λ c. omega (arith, last (known-spread c)))
+    (λ c. omega (arith, last (known-spread c))) (λ c. omega (arith, last (known-spread c))) (λ c. omega (arith, last (known-spread c)))
+    (λ c. omega (arith, last (known-spread c))) (λ c. omega (arith, last (known-spread c))) (λ c κs. search needs)
+    (λ c. let good = start (known-spread (c .before .before)) .good in search needs) (λ c. omega (arith, size (known-spread (c .before .before))))
+    (λ c. omega (arith, before-digits (known-spread (c .before .before)))) (λ c. search needs) paint-requires
+    (λ c κs. let size = sound-size _ (sound (paint-spread (c .before .before .before))) in (size .levels-most, omega (arith, size .inputs-most)))
+    (λ c. search needs) returns)

@@ -1,8 +1,5 @@
 -- `families::count::family_count` meets its contract. Assumes nothing.
-use Prim.Native.Nat.{_^_}
-use mathlib.Core.Path.{_∙_}
-use native.Mathlib.Omega.{arith}
-use borrow.Author.Needs.{needs}
+use Rattle.laws.specs.Prelude.{_^_, _∙_, arith, needs}
 use Rattle.rules.specs.Limits.{mostInputs}
 use Rattle.settling.specs.Outcomes.{given-size, given-count, given-below}
 use Rattle.families.specs.Marked.{none-known, groups-room}
@@ -49,8 +46,8 @@ returns-2 c =
     let read = at-read (at-told (did .before)) in
     let a = at-start read .args in
     let taken = read .read-input .ensures .taken (at-told (did .before) .enum-told .given .1) in
-    count-given (a .s .now) (read .read-input .result .header) _ (a .cells .now) (a .marks .now) (did .count-marked .result) _ _ _ _
-    (did .count-marked .ensures) (taken .room)
+    count-given (a .s .now) (read .read-input .result .header) _ (a .cells .now) (a .marks .now) (did .count-marked .result .trees) _ _ _ _
+    (did .count-marked .ensures .0) (taken .room)
     ∙ input-counted (a .s .now) (a .cells .now) (a .marks .now) _ _ taken
 
 pub family-count-spec : {M : Type 1} → statement M

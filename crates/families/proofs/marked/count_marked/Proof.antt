@@ -1,12 +1,7 @@
 -- `families::marked::count_marked` meets its contract. Assumes nothing.
-use Prim.Native.Nat.{ℕ, _-_}
-use mathlib.Core.Path.{_≡_, subst, subst⁻¹}
-use mathlib.Core.Logic.{inl}
-use mathlib.Core.List.{List}
-use native.Mathlib.Omega.{arith}
-use borrow.Author.Needs.{needs}
-use lib.ListN.{take}
+use Rattle.laws.specs.Prelude.{ℕ, _-_, _≡_, subst, subst⁻¹, inl, List, arith, take, needs}
 use Rattle.rules.specs.Groups.Marks.{marksOf}
+use Rattle.rules.specs.Nets.Leaves.{leavesOf}
 use Rattle.rules.specs.Calls.Answers.{inkIn}
 use Rattle.laws.specs.Numbers.Sizes.{sized}
 use Rattle.net_sheets.specs.Text.Put.{put-wrote}
@@ -51,7 +46,7 @@ module _ (c : tie.After-power) where
   own = take (c .power .result - 0) (at-marks c .mark-and-store .last .1 .1 .1 .0)
 
   is-own : own ≡ marksOf (start .args .m) (start .args .n) f
-  is-own = marks-front (start .args .m) (start .args .n) (start .pre .0) f _ (at-marks c .mark-and-store .ensures .own .front) (c .power .result)
+  is-own = marks-front (start .args .m) (start .args .n) (start .pre .0) f _ (at-marks c .mark-and-store .ensures .0 .own .front) (c .power .result)
       (c .power .ensures)
 
 mark-and-store-requires : tie.Need-mark-and-store-requires
@@ -64,11 +59,21 @@ power-requires c κs =
     let s = marks-start (c .before .before .before .before) in
     omega (arith, sized (s .args .m) (s .args .n) (s .pre .0) .inputs-most)
 
+leaves-requires : tie.Need-leaves-requires
+leaves-requires c κs =
+    let s = start c in
+    let fit = sized (s .args .m) (s .args .n) (s .pre .0) in
+    (fit .inputs-least, fit .inputs-most, at-marks c .mark-and-store .ensures .1 .below)
+
+-- the leaves are those of the table
+leaves-are : (c : tie.After-leaves) → c .leaves .result ≡ leavesOf (start (c .before) .args .m) (start (c .before) .args .n) (f (c .before))
+leaves-are c = c .leaves .ensures _ _ (at-marks (c .before) .mark-and-store .ensures .1)
+
 tree-count-requires : tie.Need-tree-count-requires
 tree-count-requires c κs =
     let power = at-power c in
     let s = start power in
-    subst⁻¹ (Countable (own power) (s .args .counts .now)) (at-leaves c .leaves .ensures)
+    subst⁻¹ (Countable (own power) (s .args .counts .now)) (leaves-are (at-leaves c))
     (leaves-countable (s .args .m) (s .args .n) (s .pre .0) (f power) (own power) (s .args .counts .now) (is-own power) (s .pre .5) (λ g. inl (s .pre .6 g)))
 
 returns : tie.Need-returns
@@ -76,18 +81,19 @@ returns c =
     let found = at-count c in
     let power = at-power (found .before) in
     let s = start power in
-    let did = at-marks power .mark-and-store in
-    record {
-      count = leaves-counted (s .args .m) (s .args .n) (s .pre .0) (f power) (own power) (is-own power) _ (at-leaves (found .before) .leaves .ensures)
-          (found .tree-count .result) _ (found .tree-count .ensures);
-      copied = put-wrote (s .pre .2) (at-copy (at-marks power) .copy .ensures) .text;
-      front = did .ensures .own .front;
-      marked = did .ensures .buffer;
-      kept = subst (λ (marks : List ℕ). CountsKnown marks (found .tree-count .last .1 .0)) (is-own power) (found .tree-count .ensures .kept);
-    }
+    let did = at-marks power .mark-and-store in (
+      record {
+        count = leaves-counted (s .args .m) (s .args .n) (s .pre .0) (f power) (own power) (is-own power) _ (leaves-are (at-leaves (found .before)))
+            (found .tree-count .result) _ (found .tree-count .ensures);
+        copied = put-wrote (s .pre .2) (at-copy (at-marks power) .copy .ensures) .text;
+        front = did .ensures .0 .own .front;
+        marked = did .ensures .0 .buffer;
+        kept = subst (λ (marks : List ℕ). CountsKnown marks (found .tree-count .last .1 .0)) (is-own power) (found .tree-count .ensures .kept);
+      },
+      leaves-are (at-leaves (found .before)),
+    )
 
 pub count-marked-spec : {M : Type 1} → statement M
 count-marked-spec =
-    tie.close
-    (tie.spec (λ c κs. search needs) mark-and-store-requires power-requires (λ c κs. search needs) (λ c. search needs) (λ c. search needs)
+    tie.close (tie.spec (λ c κs. search needs) mark-and-store-requires power-requires leaves-requires (λ c. search needs) (λ c. search needs)
     (λ c. search needs) tree-count-requires (λ c. search needs) (λ c. search needs) (λ c. search needs) (λ c. search needs) returns)

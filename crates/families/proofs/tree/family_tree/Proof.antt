@@ -1,7 +1,5 @@
 -- `families::tree::family_tree` meets its contract. Assumes nothing.
-use mathlib.Core.Path.{_∙_}
-use native.Mathlib.Omega.{arith}
-use borrow.Author.Needs.{needs}
+use Rattle.laws.specs.Prelude.{_∙_, arith, needs}
 use Rattle.families.specs.Outcomes.{tree-turned, input-numbered}
 use Rattle.families.proofs.tree.family_tree.Statement.{statement}
 use Rattle.families.proofs.tree.family_tree.Tie as tie

@@ -1,11 +1,5 @@
 -- `families::tree::tree_marked` meets its contract. Assumes nothing.
-use Prim.Native.Nat.{ℕ, _-_, _^_}
-use mathlib.Core.Path.{_≡_, sym, subst⁻¹}
-use mathlib.Core.List.{List}
-use native.Mathlib.Nat.{le-of-eq}
-use native.Mathlib.Omega.{arith}
-use borrow.Author.Needs.{needs}
-use lib.ListN.{length, take}
+use Rattle.laws.specs.Prelude.{ℕ, _-_, _^_, _≡_, sym, subst⁻¹, List, le-of-eq, arith, length, take, needs}
 use Rattle.rules.specs.Limits.{mostInputs}
 use Rattle.rules.specs.Groups.Marks.{marksOf}
 use Rattle.rules.specs.Calls.Answers.{inkIn}
@@ -27,10 +21,10 @@ abbrev at-start : tie.After-count-marked → tie.Start
 at-start c = at-args (c .before)
 
 abbrev at-count : tie.Else1 → tie.After-count-marked
-at-count c = c .before .before .before .before .before .before .before
+at-count c = c .before .before .before .before .before .before .before .before
 
 abbrev past-count : tie.Then1 → tie.After-count-marked
-past-count c = c .before .before .before .before .before .before .before
+past-count c = c .before .before .before .before .before .before .before .before
 
 abbrev at-test : tie.After-power → tie.Else1
 at-test c = c .before
@@ -62,7 +56,8 @@ returns : tie.Need-returns
 returns c =
     let count = past-count c in
     let a = at-start count .args in
-    order-past (a .s .now) (a .header) (a .inks .now) (a .cells .now) (a .marks .now) (count .count-marked .result) _ _ _ _ (count .count-marked .ensures)
+    order-past (a .s .now) (a .header) (a .inks .now) (a .cells .now) (a .marks .now) (count .count-marked .result .trees) _ _ _ _
+    (count .count-marked .ensures .0)
     (a .order) (a .out .now) (c .if1 .taken)
 
 part-family-net-end : tie.Need-part-family-net-end
@@ -82,17 +77,18 @@ family-net-requires c κs =
     let size = given-size _ _ _ (start .pre .0) in
     let did = count .count-marked in
     let own : List ℕ = take (power .power .result - 0) (did .last .1 .1 .1 .1 .0) in
-    let is-own : own ≡ marksOf (h .levels) (h .inputs) f = marks-front (h .levels) (h .inputs) size f _ (did .ensures .front) (power .power .result)
+    let is-own : own ≡ marksOf (h .levels) (h .inputs) f = marks-front (h .levels) (h .inputs) size f _ (did .ensures .0 .front) (power .power .result)
     (power .power .ensures) in
     let long : length (did .last .1 .1 .1 .1 .1 .1 .0) ≡ 2 ^ mostInputs = search needs in
     let kept : CountsKnown own (did .last .1 .1 .1 .1 .1 .1 .0) =
-    subst⁻¹ (λ (marks : List ℕ). CountsKnown marks (did .last .1 .1 .1 .1 .1 .1 .0)) is-own (did .ensures .kept) in (
+    subst⁻¹ (λ (marks : List ℕ). CountsKnown marks (did .last .1 .1 .1 .1 .1 .1 .0)) is-own (did .ensures .0 .kept) in (
       size,
       le-of-eq (sym (given-count _ _ _ (start .pre .0))),
       given-below _ _ _ (start .pre .0),
       is-own,
       leaves-countable (h .levels) (h .inputs) size f own (did .last .1 .1 .1 .1 .1 .1 .0) is-own (omega (arith, groups-room _ _ size, long)) kept,
-      omega (arith, test .if1 .left, did .ensures .count),
+      omega (arith, test .if1 .left, did .ensures .0 .count),
+      did .ensures .1,
     )
 
 write-sheet-requires : tie.Need-write-sheet-requires
@@ -108,8 +104,8 @@ returns-2 c =
     let test = at-test (at-power (net .before)) in
     let count = at-count test in
     let a = at-start count .args in
-    order-tree (a .s .now) (a .header) (a .inks .now) (a .cells .now) (a .marks .now) (count .count-marked .result) _ _ _ _
-    (count .count-marked .ensures) (a .order) (a .out .now)
+    order-tree (a .s .now) (a .header) (a .inks .now) (a .cells .now) (a .marks .now) (count .count-marked .result .trees) _ _ _ _
+    (count .count-marked .ensures .0) (a .order) (a .out .now)
     (at-start count .pre .0) (test .if1 .left) (net .family-net .result) (net .family-net .ensures) (sheet .write-sheet .result) _ (sheet .write-sheet .ensures)
 
 pub tree-marked-spec : {M : Type 1} → statement M

@@ -1,9 +1,6 @@
 -- `fields::ends::after_field_in` meets its contract: the field is empty, bad or good.
 -- Assumes nothing.
-use borrow.Author.Needs.{needs}
-use mathlib.Core.Path.{ap}
-use native.Mathlib.Omega.{arith}
-use lib.ListN.{length, drop, length-drop}
+use Rattle.laws.specs.Prelude.{ap, arith, length, drop, length-drop, needs}
 use Rattle.laws.specs.Lists.Runs.{run-most}
 use Rattle.fields.specs.Judging.{after-empty, after-bad, after-good}
 use Rattle.fields.proofs.ends.after_field_in.Statement.{statement}
@@ -28,7 +25,8 @@ returns-2 : tie.Need-returns-2
 returns-2 c = after-bad _ _ _ _ _ _ (at-start (c .before .before .before .before) .pre) (c .before .before .before .if1 .left) _ (c .before .verdict .given .1)
 
 returns-3 : tie.Need-returns-3
-returns-3 c = after-good _ _ _ _ _ _ (at-start (at-found (c .before) .before) .pre) (at-found (c .before) .if1 .left) _ (c .separated-in .result) (c .before .before .verdict2 .given .1) (c .separated-in .ensures)
+returns-3 c = after-good _ _ _ _ _ _ (at-start (at-found (c .before) .before) .pre) (at-found (c .before) .if1 .left) _ (c .separated-in .result)
+    (c .before .before .verdict2 .given .1) (c .separated-in .ensures)
 
 pub after-field-in-spec : {M : Type 1} → statement M
 after-field-in-spec =

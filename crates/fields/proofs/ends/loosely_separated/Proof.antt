@@ -18,10 +18,12 @@ returns : tie.Need-returns
 returns c = loose-line-end _ _ _ _ (c .separated .result) (c .before .before .if1 .taken) (rw (c .before .spaces-end .ensures) at (c .separated .ensures))
 
 returns-2 : tie.Need-returns-2
-returns-2 c = field-loose-back _ (at-start (c .before .before .before) .args .end) _ _ _ (c .before .before .before .before .if1 .left) (c .before .before .before .separated2 .ensures) _ _ (c .before .number .given .1)
+returns-2 c = field-loose-back _ (at-start (c .before .before .before) .args .end) _ _ _ (c .before .before .before .before .if1 .left)
+    (c .before .before .before .separated2 .ensures) _ _ (c .before .number .given .1)
 
 returns-3 : tie.Need-returns-3
-returns-3 c = rw (c .spaces-end2 .ensures) (loose-space _ (at-start (at-step (c .before)) .args .end) _ _ _ (at-step (c .before) .before .if1 .left) (at-step (c .before) .separated2 .ensures) _ _ (c .before .before .value .given .1))
+returns-3 c = rw (c .spaces-end2 .ensures) (loose-space _ (at-start (at-step (c .before)) .args .end) _ _ _ (at-step (c .before) .before .if1 .left)
+    (at-step (c .before) .separated2 .ensures) _ _ (c .before .before .value .given .1))
 
 pub loosely-separated-spec : {M : Type 1} → statement M
 loosely-separated-spec =

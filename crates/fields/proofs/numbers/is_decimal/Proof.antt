@@ -13,6 +13,5 @@ returns-2 c = rw (decimal-two _ (c .before .before .if1 .left) (c .before .befor
 
 pub is-decimal-spec : {M : Type 1} → statement M
 is-decimal-spec =
-    tie.close
-    (tie.spec (λ c. search needs) (λ c. search needs) (λ c. search needs) (λ c. search needs) (λ c. search needs) (λ c. search needs)
+    tie.close (tie.spec (λ c. search needs) (λ c. search needs) (λ c. search needs) (λ c. search needs) (λ c. search needs) (λ c. search needs)
     (λ c. search needs) (λ c κs. search needs) returns (λ c. search needs) (λ c κs. search needs) returns-2)

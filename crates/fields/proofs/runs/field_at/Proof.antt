@@ -1,7 +1,6 @@
 -- `fields::runs::field_at` meets its contract: the bytes up to the field's end are the field.
 -- Assumes nothing.
-use borrow.Author.Needs.{needs}
-use native.Mathlib.Nat.{le-of-lt}
+use Rattle.laws.specs.Prelude.{le-of-lt, needs}
 use Rattle.laws.specs.Lists.Runs.{fieldEnd}
 use Rattle.fields.specs.Runs.{ends-within, field-part, field-none}
 use Rattle.fields.proofs.runs.field_at.Statement.{statement}

@@ -1,9 +1,6 @@
 -- `fields::runs::field_end` meets its contract. The loop's invariant: the field from `end` on ends where the one from `at` on does.
 -- Assumes nothing.
-use Prim.Native.Nat.{_-_}
-use mathlib.Core.Path.{_≡_, refl, sym, _∙_}
-use native.Mathlib.Omega.{arith}
-use lib.ListN.{length}
+use Rattle.laws.specs.Prelude.{_-_, _≡_, _∙_, sym, refl, arith, length}
 use Rattle.laws.specs.Lists.Runs.{fieldEnd}
 use Rattle.fields.specs.Runs.{ends-here, ends-at, ends-later, is-space, is-newline, is-neither}
 use Rattle.fields.proofs.runs.field_end.Statement.{statement}
@@ -25,7 +22,8 @@ returns-2 : tie.Need-returns-2 Inv-loop μ-loop
 returns-2 c = sym (ends-at _ _ (c .before .before .before .loop-test .taken) (is-newline _ (c .if2 .taken))) ∙ c .before .before .before .before .loop .inv
 
 loop-again : tie.Need-loop-again Inv-loop μ-loop
-loop-again c = ends-later _ _ (c .before .before .before .loop-test .taken) (is-neither _ (c .before .if1 .left) (c .if2 .left)) ∙ c .before .before .before .before .loop .inv
+loop-again c = ends-later _ _ (c .before .before .before .loop-test .taken) (is-neither _ (c .before .if1 .left) (c .if2 .left))
+    ∙ c .before .before .before .before .loop .inv
 
 returns-3 : tie.Need-returns-3 Inv-loop μ-loop
 returns-3 c = sym (ends-here _ _ (c .loop-test .left)) ∙ c .before .loop .inv

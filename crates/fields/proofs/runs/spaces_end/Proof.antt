@@ -1,9 +1,6 @@
 -- `fields::runs::spaces_end` meets its contract. The loop's invariant: the spaces from `end` on end where those from `at` on do.
 -- Assumes nothing.
-use Prim.Native.Nat.{_-_}
-use mathlib.Core.Path.{_≡_, refl, sym, _∙_}
-use native.Mathlib.Omega.{arith}
-use lib.ListN.{length}
+use Rattle.laws.specs.Prelude.{_-_, _≡_, _∙_, sym, refl, arith, length}
 use Rattle.fields.specs.Runs.{spacesEnd, spaces-none, spaces-here, spaces-later}
 use Rattle.fields.proofs.runs.spaces_end.Statement.{statement}
 use Rattle.fields.proofs.runs.spaces_end.Tie as tie

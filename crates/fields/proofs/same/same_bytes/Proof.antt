@@ -1,9 +1,6 @@
 -- `fields::same::same_bytes` meets its contract. The loop's invariant: the two are the same exactly when their rests are.
 -- Assumes nothing.
-use Prim.Native.Nat.{_-_}
-use mathlib.Core.Path.{_≡_, refl, sym, _∙_}
-use native.Mathlib.Omega.{arith}
-use lib.ListN.{length, drop}
+use Rattle.laws.specs.Prelude.{_-_, _≡_, _∙_, sym, refl, arith, length, drop}
 use Rattle.rules.specs.Lists.{same}
 use Rattle.laws.specs.Lists.Same.{same-length, same-next, same-differs, same-end}
 use Rattle.fields.proofs.same.same_bytes.Statement.{statement}
@@ -36,6 +33,5 @@ returns-3 c = sym (c .before .loop .inv .0 ∙ same-end _ _ (c .before .loop .i)
 
 pub same-bytes-spec : {M : Type 1} → statement M
 same-bytes-spec =
-    tie.close
-    (tie.spec Inv-loop μ-loop returns loop-holds (λ c. omega arith) (λ c. omega arith) returns-2 (λ c. omega arith) (λ c. omega arith)
-    loop-again returns-3)
+    tie.close (tie.spec Inv-loop μ-loop returns loop-holds (λ c. omega arith) (λ c. omega arith) returns-2 (λ c. omega arith) (λ c. omega arith) loop-again
+    returns-3)

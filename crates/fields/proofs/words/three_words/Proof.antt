@@ -20,7 +20,8 @@ returns-2 : tie.Need-returns-2
 unfolding threeWords
 returns-2 c =
     let first = c .before .before .before .before in
-    word-on strict _ (at-start first .args .at) _ (twoWordsIn strict _ _) _ (first .word-field .ensures) _ _ (c .two-words-in .result) (c .before .before .next .given .1) (c .two-words-in .ensures)
+    word-on strict _ (at-start first .args .at) _ (twoWordsIn strict _ _) _ (first .word-field .ensures) _ _ (c .two-words-in .result)
+    (c .before .before .next .given .1) (c .two-words-in .ensures)
 
 pub three-words-spec : {M : Type 1} → statement M
 three-words-spec =

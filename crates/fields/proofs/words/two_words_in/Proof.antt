@@ -11,11 +11,13 @@ at-start c = c .before .before .before .before
 
 returns : tie.Need-returns
 unfolding twoWordsIn
-returns c = word-back _ _ (at-start (c .before .before .before) .args .at) _ _ _ (c .before .before .before .word-field-in .ensures) _ _ (c .before .number .given .1)
+returns c =
+    word-back _ _ (at-start (c .before .before .before) .args .at) _ _ _ (c .before .before .before .word-field-in .ensures) _ _ (c .before .number .given .1)
 
 returns-2 : tie.Need-returns-2
 unfolding twoWordsIn
-returns-2 c = word-on _ _ (at-start (c .before .before .before .before) .args .at) _ _ _ (c .before .before .before .before .word-field-in .ensures) _ _ (c .word-field-in2 .result) (c .before .before .next .given .1) (c .word-field-in2 .ensures)
+returns-2 c = word-on _ _ (at-start (c .before .before .before .before) .args .at) _ _ _ (c .before .before .before .before .word-field-in .ensures) _ _
+    (c .word-field-in2 .result) (c .before .before .next .given .1) (c .word-field-in2 .ensures)
 
 pub two-words-in-spec : {M : Type 1} → statement M
 two-words-in-spec =

@@ -1,6 +1,5 @@
 -- `gate_tables::made::made_net` meets its contract: each choice has its own net. Assumes nothing.
-use mathlib.Core.Path.{subst⁻¹}
-use borrow.Author.Needs.{needs}
+use Rattle.laws.specs.Prelude.{subst⁻¹, needs}
 use Rattle.rules.specs.Calls.Answers.{inkIn}
 use Rattle.wirings.specs.declared.choice.Choice.{Choice}
 use Rattle.gate_tables.specs.MadeNet.{MadeNet}
@@ -31,5 +30,4 @@ returns-2 c =
 
 pub made-net-spec : {M : Type 1} → statement M
 made-net-spec =
-    tie.close
-    (tie.spec enum-told (λ c κs. search needs) (λ c. search needs) (λ c κs. search needs) returns returns-2)
+    tie.close (tie.spec enum-told (λ c κs. search needs) (λ c. search needs) (λ c κs. search needs) returns returns-2)

@@ -1,12 +1,10 @@
--- `gate_tables::shallow::shallow_net` meets its contract: the fewest layers of every group of mark 2 are found first. Assumes nothing.
-use Prim.Native.Nat.{_^_, _≤_}
-use mathlib.Core.Path.{_≡_}
-use native.Mathlib.Omega.{arith}
-use borrow.Author.Needs.{needs}
-use lib.ListN.{length}
-use lib.Pow.{pow-mono}
+-- `gate_tables::shallow::shallow_net` meets its contract: the fewest layers inside the leaves are found first. Assumes nothing.
+use Rattle.laws.specs.Prelude.{_≤_, _^_, _≡_, arith, length, needs, pow-mono}
 use Rattle.rules.specs.Limits.{mostInputs}
+use Rattle.rules.specs.Calls.Answers.{inkIn}
 use Rattle.laws.specs.Numbers.Sizes.{Size, sized}
+use Rattle.trees.specs.Leaves.LeafGroup.{leaves-below}
+use Rattle.gate_tables.specs.MadeNet.{some-level}
 use Rattle.gate_tables.proofs.shallow.shallow_net.Statement.{statement}
 use Rattle.gate_tables.proofs.shallow.shallow_net.Tie as tie
 
@@ -27,14 +25,15 @@ room c = pow-mono {i = c .args .n} {j = mostInputs} (size c .inputs-most)
 fewest-layers-requires : tie.Need-fewest-layers-requires
 fewest-layers-requires c κs =
     let s = at-start c in
-    (omega (arith, size s .inputs-most), s .pre .3 .room, room s)
+    let below = leaves-below (s .args .m) (s .args .n) (some-level _ _ (s .pre .0)) (inkIn (s .args .cells .now)) in
+    (omega (arith, size s .inputs-most), s .pre .3 .room, room s, omega (arith, below, s .pre .5))
 
 chosen-net-requires : tie.Need-chosen-net-requires
 chosen-net-requires c κs =
     let s = at-start (at-layers c .before) in
-    let (fit, cells, inks, marks, two) = s .pre in
-    let long : length (at-layers c .fewest-layers .last .1 .1 .0) ≡ 2 ^ mostInputs = search needs in
-    (fit, cells, inks, marks, two, (omega (arith, room s, long), at-layers c .fewest-layers .ensures))
+    let (fit, cells, inks, marks, two, leaves) = s .pre in
+    let long : length (at-layers c .fewest-layers .last .1 .1 .1 .0) ≡ 2 ^ mostInputs = search needs in
+    (fit, cells, inks, marks, two, leaves, (omega (arith, room s, long), at-layers c .fewest-layers .ensures))
 
 pub shallow-net-spec : {M : Type 1} → statement M
 shallow-net-spec =

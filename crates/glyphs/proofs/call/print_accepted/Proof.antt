@@ -1,10 +1,6 @@
 -- `glyphs::call::print_accepted` meets its contract: it tests the picture, the offsets and the output, then prints the glyph.
 -- Assumes nothing.
-use mathlib.Core.Path.{_≡_, sym, _∙_}
-use mathlib.Core.Bool.{true}
-use native.Mathlib.Omega.{arith}
-use borrow.Author.Needs.{needs}
-use borrow.Author.Tests.{not-true, not-false}
+use Rattle.laws.specs.Prelude.{_≡_, _∙_, sym, true, arith, not-true, not-false, needs}
 use Rattle.rules.specs.Calls.Glyphs.{pictureFits, offsetsFit}
 use Rattle.nets.specs.Sound.{sound-size}
 use Rattle.accepted.specs.Taken.{sound}
@@ -23,7 +19,8 @@ abbrev room-start : tie.Else2 → tie.Start
 room-start c = offsets-start (c .before)
 
 -- what the first two tests have shown
-good : (c : tie.Else1) → let start = at-start (c .before) in pictureFits (start .args .net .levels) (start .args .width) (start .args .height) (start .args .picture .now) ≡ true
+good : (c : tie.Else1) → let start =
+    at-start (c .before) in pictureFits (start .args .net .levels) (start .args .width) (start .args .height) (start .args .picture .now) ≡ true
 good c = sym (c .before .picture-fits .ensures) ∙ not-false _ (c .if1 .left)
 
 near : (c : tie.Else2) → let start = room-start c in offsetsFit (start .args .net .inputs) (start .args .offsets .now) ≡ true
@@ -42,7 +39,11 @@ returns-2 c =
 mul-need : tie.Need-mul-need
 mul-need c =
     let start = room-start c in
-    omega (arith, few-cells _ _ _ (start .pre) (start .args .width) (start .args .height) (start .args .picture .now) (start .args .offsets .now) (start .args .out .now) (good (c .before .before)))
+    omega (
+      arith,
+      few-cells _ _ _ (start .pre) (start .args .width) (start .args .height) (start .args .picture .now) (start .args .offsets .now)
+          (start .args .out .now) (good (c .before .before)),
+    )
 
 returns-3 : tie.Need-returns-3
 returns-3 c = output-short _ _ _ (room-start (c .before) .pre) _ _ _ _ _ (good (c .before .before .before)) (near (c .before)) (c .if3 .taken)
@@ -61,6 +62,5 @@ returns-4 c =
 
 pub print-accepted-spec : {M : Type 1} → statement M
 print-accepted-spec =
-    tie.close
-    (tie.spec (λ c κs. sound-size _ (sound _ _ _ (c .before .before .before .pre)) .levels-most) returns offsets-fit-requires returns-2
-    mul-need returns-3 print-glyph-requires (λ c. search needs) returns-4)
+    tie.close (tie.spec (λ c κs. sound-size _ (sound _ _ _ (c .before .before .before .pre)) .levels-most) returns offsets-fit-requires returns-2 mul-need
+    returns-3 print-glyph-requires (λ c. search needs) returns-4)

@@ -1,12 +1,5 @@
 -- `glyphs::frame::frame` meets its contract. The loop's invariant: the first y rows are in the frame. Assumes nothing.
-use Prim.Native.Nat.{ℕ, _+_, _-_, _*_, _≤_, _<_}
-use mathlib.Core.Path.{_≡_, sym, ap, _∙_, subst}
-use mathlib.Core.List.{List}
-use native.Mathlib.Nat.{zero-mul, suc-mul}
-use native.Mathlib.Numerals.{add-one}
-use native.Mathlib.Omega.{arith}
-use borrow.Author.Needs.{needs}
-use lib.ListN.{length, take, drop}
+use Rattle.laws.specs.Prelude.{ℕ, _<_, _≤_, _+_, _-_, _*_, _≡_, _∙_, sym, ap, subst, List, zero-mul, suc-mul, add-one, arith, length, take, drop, needs}
 use Rattle.glyphs.specs.Frames.{frameSize, GlyphFramed, framed-none, glyph-part-is, row-there, row-room, framed-put}
 use Rattle.glyphs.proofs.frame.frame.Statement.{statement}
 use Rattle.glyphs.proofs.frame.frame.Tie as tie
@@ -49,7 +42,11 @@ module _ (c : tie.In-loop Inv-loop μ-loop) where
 
   there : from + width ≤ length picture
   there =
-      omega (arith, row-there width (start .args .height) (start .pre .0) (start .pre .1) picture (start .pre .2) (c .before .loop .y) (c .loop-test .taken), c .before .loop .inv .1)
+      omega (
+        arith,
+        row-there width (start .args .height) (start .pre .0) (start .pre .1) picture (start .pre .2) (c .before .loop .y) (c .loop-test .taken),
+        c .before .loop .inv .1,
+      )
 
   -- the row that is copied
   abbrev row : List ℕ
@@ -64,7 +61,8 @@ module _ (c : tie.In-loop Inv-loop μ-loop) where
 copy-requires : tie.Need-copy-requires Inv-loop μ-loop
 copy-requires c κs =
     let turn = c .before .before in
-    row-room (width turn) (start turn .args .height) (start turn .pre .0) (start turn .pre .1) (picture turn) (start turn .pre .2) (turn .before .loop .y) (turn .loop-test .taken)
+    row-room (width turn) (start turn .args .height) (start turn .pre .0) (start turn .pre .1) (picture turn) (start turn .pre .2) (turn .before .loop .y)
+    (turn .loop-test .taken)
     (row turn) (row-is turn) (start turn .args .wires .now) (turn .before .loop .wires) (room turn)
 
 add-from : tie.Need-add-from Inv-loop μ-loop
@@ -77,7 +75,8 @@ loop-again c =
     let next : (turn .before .loop .y + 1) * width turn ≡ turn .before .loop .y * width turn + width turn = rw (add-one, suc-mul) in (
       omega (arith, turn .loop-test .taken),
       omega (arith, inv .1, next),
-      framed-put (width turn) (start turn .args .height) (start turn .pre .0) (start turn .pre .1) (picture turn) (start turn .pre .2) (turn .before .loop .y) (turn .loop-test .taken)
+      framed-put (width turn) (start turn .args .height) (start turn .pre .0) (start turn .pre .1) (picture turn) (start turn .pre .2) (turn .before .loop .y)
+          (turn .loop-test .taken)
           (row turn) (row-is turn) (start turn .args .wires .now) (turn .before .loop .wires) (room turn) (inv .2) _ (at-copy c .copy .ensures .text),
     )
 
@@ -85,12 +84,12 @@ returns : tie.Need-returns Inv-loop μ-loop
 returns c =
     let start = at-start (c .before) in
     let all : c .before .loop .y ≡ start .args .height = omega (arith, c .before .loop .inv .0, c .loop-test .left) in
-    subst (λ (k : ℕ). GlyphFramed (start .args .width) k (start .args .picture .now) (start .args .wires .now) (c .before .loop .wires)) all (c .before .loop .inv .2)
+    subst (λ (k : ℕ). GlyphFramed (start .args .width) k (start .args .picture .now) (start .args .wires .now) (c .before .loop .wires)) all
+    (c .before .loop .inv .2)
 
 pub frame-spec : {M : Type 1} → statement M
 frame-spec =
-    tie.close
-    (tie.spec Inv-loop μ-loop loop-holds (λ c. omega (arith, there c, start c .good)) (λ c. omega arith) (λ c. search needs) (λ c. there c)
-    (λ c. omega (arith, few (c .before .before))) (λ c. omega (arith, few (c .before .before)))
-    (λ c. omega (arith, few (c .before .before))) copy-requires add-from (λ c. omega (arith, few (at-turn (at-copy c))))
-    (λ c. omega (arith, at-turn (at-copy c) .loop-test .taken)) loop-again (λ c. c .before .loop .inv .2 .same) returns)
+    tie.close (tie.spec Inv-loop μ-loop loop-holds (λ c. omega (arith, there c, start c .good)) (λ c. omega arith) (λ c. search needs) (λ c. there c)
+    (λ c. omega (arith, few (c .before .before))) (λ c. omega (arith, few (c .before .before))) (λ c. omega (arith, few (c .before .before))) copy-requires
+    add-from (λ c. omega (arith, few (at-turn (at-copy c)))) (λ c. omega (arith, at-turn (at-copy c) .loop-test .taken)) loop-again
+    (λ c. c .before .loop .inv .2 .same) returns)

@@ -1,7 +1,5 @@
 -- `glyphs::offsets::offsets_fit` meets its contract: the right number of offsets, and each near. Assumes nothing.
-use mathlib.Core.Path.{_∙_}
-use borrow.Author.Needs.{needs}
-use borrow.Author.Tests.{eq-eqb, ne-eqb}
+use Rattle.laws.specs.Prelude.{_∙_, eq-eqb, ne-eqb, needs}
 use Rattle.rules.specs.Calls.Glyphs.{offsetsFit}
 use Rattle.glyphs.proofs.offsets.offsets_fit.Statement.{statement}
 use Rattle.glyphs.proofs.offsets.offsets_fit.Tie as tie

@@ -1,9 +1,5 @@
 -- `glyphs::offsets::starts_of` meets its contract. The loop's invariant: the first i inputs have their starts. Assumes nothing.
-use Prim.Native.Nat.{_+_, _-_, _*_, _≤_, _<_}
-use mathlib.Core.Path.{_≡_, refl, ap, _∙_}
-use native.Mathlib.Omega.{arith}
-use borrow.Author.Needs.{needs}
-use lib.ListN.{length}
+use Rattle.laws.specs.Prelude.{_<_, _≤_, _+_, _-_, _*_, _≡_, _∙_, ap, refl, arith, length, needs}
 use Rattle.rules.specs.Limits.{mostInputs}
 use Rattle.rules.specs.Calls.Glyphs.{across, down}
 use Rattle.glyphs.specs.Offsets.{element, span, reach, startOf, across-there, down-there, across-near, down-near, StartsAt, glyph-starts-more}
@@ -45,11 +41,13 @@ module _ (c : tie.In-loop Inv-loop μ-loop) where
   near = (across-near _ _ (start .pre .1) _ (c .loop-test .taken), down-near _ _ (start .pre .1) _ (c .loop-test .taken))
 
 -- what the two calls return
-first : (c : tie.After-reach-of Inv-loop μ-loop) → c .reach-of .result ≡ reach (down (start (at-turn (c .before)) .args .offsets .now) (at-turn (c .before) .before .loop .i))
+first : (c : tie.After-reach-of Inv-loop μ-loop) → c .reach-of .result ≡ reach
+    (down (start (at-turn (c .before)) .args .offsets .now) (at-turn (c .before) .before .loop .i))
 unfolding down
 first c = c .reach-of .ensures ∙ ap reach (element _ (c .before .down .given))
 
-second : (c : tie.After-reach-of2 Inv-loop μ-loop) → c .reach-of2 .result ≡ reach (across (start (calls-turn c) .args .offsets .now) (calls-turn c .before .loop .i))
+second : (c : tie.After-reach-of2 Inv-loop μ-loop) → c .reach-of2 .result ≡ reach
+    (across (start (calls-turn c) .args .offsets .now) (calls-turn c .before .loop .i))
 unfolding across
 second c = c .reach-of2 .ensures ∙ ap reach (element _ (c .before .before .before .across .given))
 
@@ -69,8 +67,6 @@ returns c = λ i h. c .before .loop .inv .1 .each i (omega (arith, c .loop-test 
 pub starts-of-spec : {M : Type 1} → statement M
 starts-of-spec =
     tie.close (tie.spec Inv-loop μ-loop loop-holds (λ c. omega (arith, few c)) (λ c. there c .0) (λ c. omega (arith, few (c .before)))
-    (λ c. omega (arith, few (c .before))) (λ c. there (c .before) .1) (λ c κs. search needs)
-    (λ c. omega (arith, first c, near (at-turn (c .before)))) (λ c κs. search needs)
-    (λ c. omega (arith, first (c .before), second c, near (calls-turn c))) (λ c. omega (arith, few (calls-turn c)))
-    (λ c. omega (arith, few (calls-turn c))) (λ c. omega (arith, few (calls-turn c))) (λ c. omega (arith, calls-turn c .loop-test .taken))
-    loop-again returns)
+    (λ c. omega (arith, few (c .before))) (λ c. there (c .before) .1) (λ c κs. search needs) (λ c. omega (arith, first c, near (at-turn (c .before))))
+    (λ c κs. search needs) (λ c. omega (arith, first (c .before), second c, near (calls-turn c))) (λ c. omega (arith, few (calls-turn c)))
+    (λ c. omega (arith, few (calls-turn c))) (λ c. omega (arith, few (calls-turn c))) (λ c. omega (arith, calls-turn c .loop-test .taken)) loop-again returns)

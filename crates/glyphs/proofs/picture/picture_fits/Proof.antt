@@ -1,9 +1,5 @@
 -- `glyphs::picture::picture_fits` meets its contract: test by test. Assumes nothing.
-use mathlib.Core.Path.{_≡_, sym, _∙_}
-use mathlib.Core.Bool.{true}
-use native.Mathlib.Omega.{arith}
-use borrow.Author.Needs.{needs}
-use borrow.Author.Tests.{not-true, not-false}
+use Rattle.laws.specs.Prelude.{_≡_, _∙_, sym, true, arith, not-true, not-false, needs}
 use Rattle.rules.specs.Calls.Glyphs.{sideFits}
 use Rattle.glyphs.specs.Pictures.{width-bad, height-bad, few-cells, count-bad, cells-decide}
 use Rattle.glyphs.proofs.picture.picture_fits.Statement.{statement}
@@ -27,7 +23,8 @@ returns : tie.Need-returns
 returns c = sym (width-bad _ (at-start (c .before) .args .width) _ _ (sym (c .before .side-fits .ensures) ∙ not-true _ (c .if1 .taken)))
 
 returns-2 : tie.Need-returns-2
-returns-2 c = sym (height-bad _ _ (second-start (c .before) .args .height) _ (wide (c .before .before)) (sym (c .before .side-fits2 .ensures) ∙ not-true _ (c .if2 .taken)))
+returns-2 c = sym (height-bad _ _ (second-start (c .before) .args .height) _ (wide (c .before .before))
+    (sym (c .before .side-fits2 .ensures) ∙ not-true _ (c .if2 .taken)))
 
 mul-if3 : tie.Need-mul-if3
 mul-if3 c =

@@ -1,6 +1,5 @@
 -- `glyphs::print::print_glyph` meets its contract: the framed picture, the net's values, the rows. Assumes nothing.
-use native.Mathlib.Omega.{arith}
-use borrow.Author.Needs.{needs}
+use Rattle.laws.specs.Prelude.{arith, needs}
 use Rattle.nets.specs.Sound.{sound-size}
 use Rattle.glyphs.specs.Glyph.{mostValues, blank, blank-long, glyph-values-ready, rows-ready, rows-are}
 use Rattle.glyphs.proofs.print.print_glyph.Statement.{statement}
@@ -43,7 +42,8 @@ print-rows-requires c κs =
     let values = c .before .before .before in
     let frame = values-frame values in
     let starts = frame-starts frame in
-    rows-ready _ _ _ _ _ _ (at-start starts .pre) _ (starts .starts-of .ensures) _ _ (frame .frame .ensures) (blank-long mostValues) _ _ (values .values .ensures)
+    rows-ready _ _ _ _ _ _ (at-start starts .pre) _ (starts .starts-of .ensures) _ _ (frame .frame .ensures) (blank-long mostValues) _ _
+    (values .values .ensures)
 
 returns : tie.Need-returns
 returns c =
@@ -51,7 +51,8 @@ returns c =
     let values = rows-values rows in
     let frame = values-frame values in
     let starts = frame-starts frame in
-    rows-are _ _ _ _ _ _ (at-start starts .pre) _ (starts .starts-of .ensures) _ _ (frame .frame .ensures) (blank-long mostValues) _ _ (values .values .ensures) _ (rows .print-rows .ensures)
+    rows-are _ _ _ _ _ _ (at-start starts .pre) _ (starts .starts-of .ensures) _ _ (frame .frame .ensures) (blank-long mostValues) _ _
+    (values .values .ensures) _ (rows .print-rows .ensures)
 
 pub print-glyph-spec : {M : Type 1} → statement M
 print-glyph-spec =

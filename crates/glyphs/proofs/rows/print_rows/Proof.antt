@@ -1,10 +1,5 @@
 -- `glyphs::rows::print_rows` meets its contract. The loop's invariant: the first y rows are written. Assumes nothing.
-use Prim.Native.Nat.{ℕ, _+_, _-_, _*_, _≤_}
-use mathlib.Core.Path.{_≡_, ap, _∙_}
-use mathlib.Core.List.{List, _++_}
-use native.Mathlib.Omega.{arith}
-use borrow.Author.Needs.{needs}
-use lib.ListN.{length, take, drop}
+use Rattle.laws.specs.Prelude.{ℕ, _≤_, _+_, _-_, _*_, _≡_, _∙_, ap, List, _++_, arith, length, take, drop, needs}
 use Rattle.glyphs.specs.Frames.{glyph-part-is}
 use Rattle.glyphs.specs.Rows.{RowsDone, rowsFrom, rows-none, rows-length, glyph-row-there, row-fits, row-length, rows-more}
 use Rattle.glyphs.proofs.rows.print_rows.Statement.{statement}
@@ -43,20 +38,24 @@ module _ (c : tie.In-loop Inv-loop μ-loop) where
   wires = start .args .wires .now
 
   there : from + width ≤ length wires
-  there = glyph-row-there wires (start .args .start) width (start .args .height) (start .args .out .now) (start .pre) (c .before .loop .y) from (c .before .loop .at) (c .before .loop .out) (c .before .loop .inv) (c .loop-test .taken)
+  there = glyph-row-there wires (start .args .start) width (start .args .height) (start .args .out .now) (start .pre) (c .before .loop .y) from
+      (c .before .loop .at) (c .before .loop .out) (c .before .loop .inv) (c .loop-test .taken)
 
   fits : c .before .loop .at + width ≤ length (c .before .loop .out)
-  fits = row-fits wires (start .args .start) width (start .args .height) (start .args .out .now) (start .pre) (c .before .loop .y) from (c .before .loop .at) (c .before .loop .out) (c .before .loop .inv) (c .loop-test .taken)
+  fits = row-fits wires (start .args .start) width (start .args .height) (start .args .out .now) (start .pre) (c .before .loop .y) from (c .before .loop .at)
+      (c .before .loop .out) (c .before .loop .inv) (c .loop-test .taken)
 
   kept : length (c .before .loop .out) ≡ length (start .args .out .now)
-  kept = rows-length wires (start .args .start) width (start .args .height) (start .args .out .now) (start .pre) (c .before .loop .y) from (c .before .loop .at) (c .before .loop .out) (c .before .loop .inv)
+  kept = rows-length wires (start .args .start) width (start .args .height) (start .args .out .now) (start .pre) (c .before .loop .y) from
+      (c .before .loop .at) (c .before .loop .out) (c .before .loop .inv)
 
   -- the row that is copied
   abbrev row : List ℕ
   row = take (from + width - from) (drop from wires)
 
   row-long : length row ≡ width
-  row-long = row-length wires (start .args .start) width (start .args .height) (start .args .out .now) (start .pre) (c .before .loop .y) from (c .before .loop .at) (c .before .loop .out) (c .before .loop .inv) (c .loop-test .taken) row (glyph-part-is from width wires)
+  row-long = row-length wires (start .args .start) width (start .args .height) (start .args .out .now) (start .pre) (c .before .loop .y) from
+      (c .before .loop .at) (c .before .loop .out) (c .before .loop .inv) (c .loop-test .taken) row (glyph-part-is from width wires)
 
 copy-requires : tie.Need-copy-requires Inv-loop μ-loop
 copy-requires c κs = let turn = c .before .before in omega (arith, fits turn, row-long turn)
@@ -73,22 +72,25 @@ add-y c = let turn = at-turn (at-copy c) in omega (arith, turn .loop-test .taken
 loop-again : tie.Need-loop-again Inv-loop μ-loop
 loop-again c =
     let turn = at-turn (at-copy c) in
-    rows-more (wires turn) (start turn .args .start) (width turn) (start turn .args .height) (start turn .args .out .now) (start turn .pre) (turn .before .loop .y) (from turn) (turn .before .loop .at)
-    (turn .before .loop .out) (turn .before .loop .inv) (turn .loop-test .taken) (row turn) (glyph-part-is (from turn) (width turn) (wires turn)) _ (at-copy c .copy .ensures .text)
+    rows-more (wires turn) (start turn .args .start) (width turn) (start turn .args .height) (start turn .args .out .now) (start turn .pre)
+    (turn .before .loop .y) (from turn) (turn .before .loop .at)
+    (turn .before .loop .out) (turn .before .loop .inv) (turn .loop-test .taken) (row turn) (glyph-part-is (from turn) (width turn) (wires turn)) _
+    (at-copy c .copy .ensures .text)
 
 same-length : tie.Need-same-length Inv-loop μ-loop
 same-length c =
     let start = at-start (c .before) in
-    rows-length (start .args .wires .now) (start .args .start) (start .args .width) (start .args .height) (start .args .out .now) (start .pre) (c .before .loop .y) (c .before .loop .from) (c .before .loop .at) (c .before .loop .out) (c .before .loop .inv)
+    rows-length (start .args .wires .now) (start .args .start) (start .args .width) (start .args .height) (start .args .out .now) (start .pre)
+    (c .before .loop .y) (c .before .loop .from) (c .before .loop .at) (c .before .loop .out) (c .before .loop .inv)
 
 returns : tie.Need-returns Inv-loop μ-loop
 returns c =
     let start = at-start (c .before) in
     let all : c .before .loop .y ≡ start .args .height = omega (arith, c .before .loop .inv .low, c .loop-test .left) in
-    c .before .loop .inv .text ∙ ap (λ (k : ℕ). rowsFrom (start .args .wires .now) (start .args .start) (start .args .width) k ++ drop (k * start .args .width) (start .args .out .now)) all
+    c .before .loop .inv .text ∙ ap (λ (k : ℕ). rowsFrom (start .args .wires .now) (start .args .start) (start .args .width) k ++ drop (k * start .args .width)
+    (start .args .out .now)) all
 
 pub print-rows-spec : {M : Type 1} → statement M
 print-rows-spec =
-    tie.close
-    (tie.spec Inv-loop μ-loop loop-holds (λ c. omega (arith, there c, start c .good)) (λ c. omega arith) (λ c. search needs) (λ c. there c)
+    tie.close (tie.spec Inv-loop μ-loop loop-holds (λ c. omega (arith, there c, start c .good)) (λ c. omega arith) (λ c. search needs) (λ c. there c)
     copy-requires add-from add-at add-y (λ c. omega (arith, at-turn (at-copy c) .loop-test .taken)) loop-again same-length returns)

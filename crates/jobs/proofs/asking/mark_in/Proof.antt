@@ -27,5 +27,4 @@ returns c =
 
 pub mark-in-spec : {M : Type 1} → statement M
 mark-in-spec =
-    tie.close
-    (tie.spec (λ c κs. search needs) enum-told (λ c. search needs) mark-under-requires returns (λ c. search needs))
+    tie.close (tie.spec (λ c κs. search needs) enum-told (λ c. search needs) mark-under-requires returns (λ c. search needs))

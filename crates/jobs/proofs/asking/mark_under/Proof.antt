@@ -26,7 +26,8 @@ returns-2 c =
 returns-3 : tie.Need-returns-3
 returns-3 c =
     let power = c .before .before in
-    λ cells. not-reached-answer _ _ (at-start (power .before) .pre .0) _ _ _ cells (power .before .if1 .left) (omega (arith, power .power .ensures, c .before .if2 .left)) (c .if3 .taken)
+    λ cells. not-reached-answer _ _ (at-start (power .before) .pre .0) _ _ _ cells (power .before .if1 .left)
+    (omega (arith, power .power .ensures, c .before .if2 .left)) (c .if3 .taken)
 
 shared-slice-read-t9 : tie.Need-shared-slice-read-t9
 shared-slice-read-t9 c =
@@ -37,7 +38,8 @@ shared-slice-read-t9 c =
 returns-4 : tie.Need-returns-4
 returns-4 c =
     let power = at-power (c .before) in
-    λ cells. reached-answer _ _ (at-start (power .before) .pre .0) _ _ _ cells (power .before .if1 .left) (omega (arith, power .power .ensures, c .before .before .if2 .left)) (c .before .if3 .left)
+    λ cells. reached-answer _ _ (at-start (power .before) .pre .0) _ _ _ cells (power .before .if1 .left)
+    (omega (arith, power .power .ensures, c .before .before .if2 .left)) (c .before .if3 .left)
 
 pub mark-under-spec : {M : Type 1} → statement M
 mark-under-spec =

@@ -1,12 +1,8 @@
 -- `jobs::finishing::finish_in` meets its contract: the job's lines are read, or there is no table. Assumes nothing.
-use Prim.Native.Nat.{_^_}
-use mathlib.Core.Path.{_∙_}
-use native.Mathlib.Omega.{arith}
-use lib.ListN.{take}
+use Rattle.laws.specs.Prelude.{_^_, _∙_, arith, take, needs}
 use Rattle.rules.specs.Text.{space}
 use Rattle.jobs.specs.Forms.{Fronted, fronted, not-fronted, front-size}
 use Rattle.jobs.specs.Finishing.{finish-none, finish-front}
-use borrow.Author.Needs.{needs}
 use Rattle.jobs.proofs.finishing.finish_in.Statement.{statement}
 use Rattle.jobs.proofs.finishing.finish_in.Tie as tie
 
@@ -53,6 +49,5 @@ returns-2 c =
 
 pub finish-in-spec : {M : Type 1} → statement M
 finish-in-spec =
-    tie.close (tie.spec (λ c κs. search needs) enum-told (λ c. search needs) power-requires (λ c. search needs) (λ c. search needs)
-    part-finish-under-end (λ c κs. front (at-power c .before)) returns (λ c. search needs) (λ c. search needs) (λ c. search needs)
-    returns-2)
+    tie.close (tie.spec (λ c κs. search needs) enum-told (λ c. search needs) power-requires (λ c. search needs) (λ c. search needs) part-finish-under-end
+    (λ c κs. front (at-power c .before)) returns (λ c. search needs) (λ c. search needs) (λ c. search needs) returns-2)

@@ -1,12 +1,9 @@
 -- `jobs::finishing::finish_under` meets its contract: a refusal, or what making returns for the job's table. Assumes nothing.
-use mathlib.Core.Path.{_≡_, sym, ap, _∙_}
-use mathlib.Core.List.{List, []}
-use Prim.Native.Nat.{ℕ}
+use Rattle.laws.specs.Prelude.{ℕ, _≡_, _∙_, sym, ap, List, [], needs}
 use Rattle.rules.specs.Calls.Answers.{accepted}
 use Rattle.rules.specs.Calls.Jobs.{mayFinish}
 use Rattle.answers.specs.AnswerMaps.{outcomeAs}
 use Rattle.jobs.specs.Finishing.{jobWith, may-given, finished-not, finished-made}
-use borrow.Author.Needs.{needs}
 use Rattle.jobs.proofs.finishing.finish_under.Statement.{statement}
 use Rattle.jobs.proofs.finishing.finish_under.Tie as tie
 
@@ -26,7 +23,8 @@ at-made c = c .before .before .before .before .before .before
 -- the job may be finished
 may : (c : tie.After-enum-told) →
     let start = at-start (at-judged c) in
-    (marks : List ℕ) → accepted tt ≡ mayFinish (jobWith (start .args .lines .now) (start .args .h) (start .pre) (start .args .inks .now) (start .args .passed) marks)
+    (marks : List ℕ) → accepted tt ≡ mayFinish (jobWith (start .args .lines .now) (start .args .h) (start .pre) (start .args .inks .now)
+    (start .args .passed) marks)
 may c marks = sym (ap (outcomeAs tt) (c .enum-told .given .1)) ∙ at-judged c .may-finish .ensures marks
 
 enum-told : tie.Need-enum-told
@@ -52,6 +50,5 @@ returns-2 c =
 
 pub finish-under-spec : {M : Type 1} → statement M
 finish-under-spec =
-    tie.close
-    (tie.spec (λ c κs. search needs) (λ c. search needs) enum-told make-table-requires returns (λ c. search needs) (λ c. search needs)
+    tie.close (tie.spec (λ c κs. search needs) (λ c. search needs) enum-told make-table-requires returns (λ c. search needs) (λ c. search needs)
     (λ c. search needs) returns-2)

@@ -1,14 +1,10 @@
 -- `jobs::finishing::may_finish` meets its contract: bare cells, and then whether all groups are passed. Assumes nothing.
-use Prim.Native.Nat.{ℕ, _-_}
-use mathlib.Core.Path.{_≡_, sym, ap, _∙_}
-use native.Mathlib.Omega.{arith}
-use lib.Pow.{pow-pos}
+use Rattle.laws.specs.Prelude.{ℕ, _-_, _≡_, _∙_, sym, ap, arith, needs, pow-pos}
 use Rattle.rules.specs.Calls.Answers.{accepted}
 use Rattle.rules.specs.Calls.OpenCells.{fullCells}
 use Rattle.answers.specs.AnswerMaps.{outcomeAs}
 use Rattle.jobs.specs.Forms.{front-size}
 use Rattle.jobs.specs.Finishing.{may-not, may-not-yet, may-now}
-use borrow.Author.Needs.{needs}
 use Rattle.jobs.proofs.finishing.may_finish.Statement.{statement}
 use Rattle.jobs.proofs.finishing.may_finish.Tie as tie
 
@@ -55,6 +51,4 @@ returns-3 c =
 
 pub may-finish-spec : {M : Type 1} → statement M
 may-finish-spec =
-    tie.close
-    (tie.spec (λ c κs. search needs) (λ c. search needs) enum-told power-requires sub-groups (λ c. search needs) returns returns-2
-    returns-3)
+    tie.close (tie.spec (λ c κs. search needs) (λ c. search needs) enum-told power-requires sub-groups (λ c. search needs) returns returns-2 returns-3)

@@ -1,10 +1,5 @@
 -- `jobs::next::is_whole_of_full` meets its contract. Assumes nothing.
-use Prim.Native.Nat.{ℕ}
-use mathlib.Core.Path.{_≡_}
-use native.Mathlib.Omega.{arith}
-use lib.ListN.{length}
-use lib.Pow.{pow-pos}
-use borrow.Author.Tests.{eqb-true}
+use Rattle.laws.specs.Prelude.{ℕ, _≡_, arith, length, eqb-true, pow-pos}
 use Rattle.laws.specs.Numbers.Sizes.{Size, sized}
 use Rattle.jobs.specs.Stepping.{whole-group}
 use Rattle.jobs.proofs.next.is_whole_of_full.Statement.{statement}

@@ -1,8 +1,5 @@
 -- `jobs::next::mark_one` meets its contract: the whole group of a full table has few classes, others are counted; arrays have room. Assumes nothing.
-use mathlib.Core.Path.{_∙_}
-use native.Mathlib.Omega.{arith}
-use lib.Pow.{pow-mono}
-use borrow.Author.Needs.{needs}
+use Rattle.laws.specs.Prelude.{_∙_, arith, needs, pow-mono}
 use Rattle.rules.specs.Calls.Answers.{inkIn}
 use Rattle.laws.specs.Numbers.Sizes.{Size, sized}
 use Rattle.marks.specs.Fast.Below.{stored-whole-mark}
@@ -34,7 +31,8 @@ returns c =
     let fit = size start in
     let (is, small) = test .is-whole-of-full .ensures (c .before .if1 .taken) in
     c .few-mark .ensures (a .n) (start .pre .2)
-    ∙ stored-whole-mark (a .m) (a .n) (inkIn (a .inks .now)) (a .marks .now) _ (omega (arith, fit .levels-least)) (whole-some _ (omega (arith, fit .inputs-least)) _ is) is small
+    ∙ stored-whole-mark (a .m) (a .n) (inkIn (a .inks .now)) (a .marks .now) _ (omega (arith, fit .levels-least))
+    (whole-some _ (omega (arith, fit .inputs-least)) _ is) is small
 
 mark-group-requires : tie.Need-mark-group-requires
 mark-group-requires c κs =
@@ -58,5 +56,4 @@ returns-2 c = c .before .before .mark-group .ensures
 
 pub mark-one-spec : {M : Type 1} → statement M
 mark-one-spec =
-    tie.close
-    (tie.spec (λ c κs. search needs) few-mark-requires returns (λ c. search needs) (λ c. search needs) mark-group-requires returns-2)
+    tie.close (tie.spec (λ c κs. search needs) few-mark-requires returns (λ c. search needs) (λ c. search needs) mark-group-requires returns-2)

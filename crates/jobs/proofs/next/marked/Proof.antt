@@ -1,7 +1,6 @@
 -- `jobs::next::marked` meets its contract. Assumes nothing.
-use mathlib.Core.Path.{refl}
+use Rattle.laws.specs.Prelude.{refl, needs}
 use Rattle.jobs.specs.Stepping.{withMark}
-use borrow.Author.Needs.{needs}
 use Rattle.jobs.proofs.next.marked.Statement.{statement}
 use Rattle.jobs.proofs.next.marked.Tie as tie
 

@@ -27,5 +27,4 @@ returns c =
 
 pub next-mark-spec : {M : Type 1} → statement M
 next-mark-spec =
-    tie.close
-    (tie.spec (λ c κs. search needs) enum-told (λ c. search needs) next-under-requires returns (λ c. search needs))
+    tie.close (tie.spec (λ c κs. search needs) enum-told (λ c. search needs) next-under-requires returns (λ c. search needs))

@@ -1,12 +1,9 @@
 -- `jobs::next::next_under` meets its contract: all groups are passed, or the next one is marked from the front of the cells and of the marks.
 -- Assumes nothing.
-use mathlib.Core.Path.{_∙_}
-use native.Mathlib.Omega.{arith}
-use lib.Pow.{pow-mono}
+use Rattle.laws.specs.Prelude.{_∙_, arith, needs, pow-mono}
 use Rattle.laws.specs.Numbers.Sizes.{Size}
 use Rattle.jobs.specs.Forms.{front-size, front-groups}
 use Rattle.jobs.specs.Stepping.{next-done, next-marked, part-length}
-use borrow.Author.Needs.{needs}
 use Rattle.jobs.proofs.next.next_under.Statement.{statement}
 use Rattle.jobs.proofs.next.next_under.Tie as tie
 
@@ -60,7 +57,8 @@ mark-one-requires c κs =
     let room = front-groups (start .args .lines .now) (start .args .h) (start .pre .0) in
     let long = part-length (power .power .result) (start .args .marks .now) (omega (arith, power .power .ensures, room, start .pre .2)) in (
       start .pre .0 .held .fits,
-      part-length (cells .power2 .result) (start .args .cells .now) (omega (arith, cells .power2 .ensures, size start .cells-most, start .pre .1)) ∙ cells .power2 .ensures,
+      part-length (cells .power2 .result) (start .args .cells .now) (omega (arith, cells .power2 .ensures, size start .cells-most, start .pre .1))
+          ∙ cells .power2 .ensures,
       omega (arith, power .power .ensures, cells .before .if1 .left),
       omega (arith, long, power .power .ensures),
     )
@@ -70,10 +68,10 @@ returns-2 c =
     let cells = at-cells (c .before .before) in
     let power = at-power cells in
     let start = at-start power in
-    next-marked _ _ (start .pre .0) _ _ _ _ (power .power .ensures) (omega (arith, cells .before .if1 .left)) _ (cells .power2 .ensures) _ (c .mark-one .ensures)
+    next-marked _ _ (start .pre .0) _ _ _ _ (power .power .ensures) (omega (arith, cells .before .if1 .left)) _ (cells .power2 .ensures) _
+    (c .mark-one .ensures)
 
 pub next-under-spec : {M : Type 1} → statement M
 next-under-spec =
-    tie.close
-    (tie.spec power-requires sub-if1 returns power-requires-2 (λ c. search needs) (λ c. search needs) part-mark-one-end (λ c. search needs)
+    tie.close (tie.spec power-requires sub-if1 returns power-requires-2 (λ c. search needs) (λ c. search needs) part-mark-one-end (λ c. search needs)
     (λ c. search needs) (λ c. search needs) part-mark-one-end-2 mark-one-requires returns-2)

@@ -1,10 +1,8 @@
 -- `jobs::opening::open` meets its contract: the empty job if the sheet is refused, else a new job on the table. Assumes nothing.
-use mathlib.Core.Path.{sym, ap, _∙_}
-use native.Mathlib.Omega.{arith}
+use Rattle.laws.specs.Prelude.{_∙_, sym, ap, arith, needs}
 use Rattle.rules.specs.Calls.Answers.{accepted}
 use Rattle.accepted.specs.Taken.{held-size, full-taken, read-full-refused, inks-given, inks-table}
 use Rattle.jobs.specs.Calls.{opened-none, opened-new}
-use borrow.Author.Needs.{needs}
 use Rattle.jobs.proofs.opening.open.Statement.{statement}
 use Rattle.jobs.proofs.opening.open.Tie as tie
 
@@ -48,6 +46,5 @@ returns-2 c =
 
 pub open-spec : {M : Type 1} → statement M
 open-spec =
-    tie.close
-    (tie.spec (λ c. search needs) (λ c κs. search needs) (λ c. search needs) (λ c κs. search needs) enum-told power-requires
-    (λ c. search needs) (λ c. search needs) part-new-job-end new-job-requires returns returns-2)
+    tie.close (tie.spec (λ c. search needs) (λ c κs. search needs) (λ c. search needs) (λ c κs. search needs) enum-told power-requires (λ c. search needs)
+    (λ c. search needs) part-new-job-end new-job-requires returns returns-2)

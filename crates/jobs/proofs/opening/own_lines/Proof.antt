@@ -1,8 +1,5 @@
 -- `jobs::opening::own_lines` meets its contract: what remains to be written after each call. Assumes nothing.
-use Prim.Native.Nat.{ℕ}
-use mathlib.Core.List.{List, [], _∷_, _++_}
-use native.Mathlib.Omega.{arith}
-use lib.ListN.{replicate}
+use Rattle.laws.specs.Prelude.{ℕ, List, [], _∷_, _++_, arith, replicate, needs}
 use Rattle.rules.specs.Text.{space, newline, text, decimal}
 use Rattle.rules.specs.Sheets.Printed.{line}
 use Rattle.readback.specs.Sheets.Header.{headText}
@@ -11,7 +8,6 @@ use Rattle.net_sheets.specs.Text.Put.{NetLeft, parts-left, put-left, room-for, 
 use Rattle.net_sheets.specs.Text.Lines.{spacedFrom}
 use Rattle.jobs.specs.Forms.{mostLines}
 use Rattle.jobs.specs.Opening.{linesOf, head-parts}
-use borrow.Author.Needs.{needs}
 use Rattle.jobs.proofs.opening.own_lines.Statement.{statement}
 use Rattle.jobs.proofs.opening.own_lines.Tie as tie
 

@@ -1,8 +1,5 @@
 -- `keeping::changed::changed_gates` meets its contract. The loop's invariant: `set` has the changed gates among the first k. Assumes nothing.
-use Prim.Native.Nat.{ℕ, _+_, _-_, _^_, _≤_, _<_}
-use mathlib.Core.Path.{_≡_, sym, ap, _∙_, subst⁻¹}
-use native.Mathlib.Omega.{arith}
-use lib.Pow.{pow-mono}
+use Rattle.laws.specs.Prelude.{ℕ, _<_, _≤_, _+_, _-_, _^_, _≡_, _∙_, sym, ap, subst⁻¹, arith, pow-mono}
 use Rattle.nets.specs.declared.forms.Net.{Net}
 use Rattle.nets.specs.Room.{mostGates}
 use Rattle.nets.specs.Sound.{gates-count, sound-size}
@@ -58,8 +55,11 @@ module _ (c : tie.Then1 Inv-loop μ-loop) where
 
 loop-again : tie.Need-loop-again Inv-loop μ-loop
 loop-again c =
-    let t = turn-same c in
-    (omega (arith, t .if1 .taken), head t .loop .inv .1 ∙ sym (set-same (old t) (new t) (k t) (t .if1 .taken) (in-new t) (sym (c .before .same-table .ensures) ∙ c .if2 .taken)))
+    let t = turn-same c in (
+      omega (arith, t .if1 .taken),
+      head t .loop .inv .1 ∙ sym
+          (set-same (old t) (new t) (k t) (t .if1 .taken) (in-new t) (sym (c .before .same-table .ensures) ∙ c .if2 .taken)),
+    )
 
 loop-again-2 : tie.Need-loop-again-2 Inv-loop μ-loop
 loop-again-2 c =

@@ -1,10 +1,5 @@
 -- `keeping::changed::same_table` meets its contract: the slices of the forms' digits that it compares are the gate's. Assumes nothing.
-use Prim.Native.Nat.{ℕ, _+_, _-_, _*_, _≤_}
-use mathlib.Core.Path.{_≡_, refl, ap₂, _∙_}
-use native.Mathlib.Nat.{add-mul, one-mul}
-use native.Mathlib.Omega.{arith}
-use borrow.Author.Needs.{needs}
-use lib.ListN.{length}
+use Rattle.laws.specs.Prelude.{ℕ, _≤_, _+_, _-_, _*_, _≡_, _∙_, refl, ap₂, add-mul, one-mul, arith, length, needs}
 use Rattle.rules.specs.Lists.{same}
 use Rattle.nets.specs.Room.{mostDigits, gate-room}
 use Rattle.nets.specs.Sound.{gates-count}

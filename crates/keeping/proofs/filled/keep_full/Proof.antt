@@ -1,6 +1,5 @@
 -- `keeping::filled::keep_full` meets its contract: 13, or the result of filling the wiring. Assumes nothing.
-use mathlib.Core.Path.{_∙_}
-use borrow.Author.Needs.{needs}
+use Rattle.laws.specs.Prelude.{_∙_, needs}
 use Rattle.keeping.specs.Rewriting.{full-short, full-long}
 use Rattle.keeping.proofs.filled.keep_full.Statement.{statement}
 use Rattle.keeping.proofs.filled.keep_full.Tie as tie

@@ -1,7 +1,5 @@
 -- `keeping::keep::keep` meets its contract: the refusals of reading both sheets, then 27, then the result for a full table. Assumes nothing.
-use mathlib.Core.Path.{sym, ap, _∙_}
-use native.Mathlib.Omega.{arith}
-use borrow.Author.Needs.{needs}
+use Rattle.laws.specs.Prelude.{_∙_, sym, ap, arith, needs}
 use Rattle.answers.specs.AnswerMaps.{outcomeAs}
 use Rattle.accepted.specs.Taken.{held-size}
 use Rattle.accepted.specs.Both.{both-long}

@@ -1,7 +1,5 @@
 -- `keeping::left_out::leaves_out` meets its contract. The loop's invariant: the remaining inputs decide. Assumes nothing.
-use Prim.Native.Nat.{_-_, _≤_}
-use mathlib.Core.Path.{_≡_, sym, _∙_}
-use native.Mathlib.Omega.{arith}
+use Rattle.laws.specs.Prelude.{_≤_, _-_, _≡_, _∙_, sym, arith}
 use Rattle.rules.specs.Calls.Answers.{inkIn}
 use Rattle.nets.specs.Forms.{gatesOf}
 use Rattle.nets.specs.Sound.{gates-count, sound-size}
@@ -12,7 +10,8 @@ use Rattle.keeping.proofs.left_out.leaves_out.Tie as tie
 
 abbrev Inv-loop : tie.InvT-loop
 Inv-loop net cells i₀ i =
-    (i ≤ net .inputs) × (leavesOutFrom (net .levels) (net .inputs) (inkIn cells) (gatesOf net) i ≡ leavesOutOf (net .levels) (net .inputs) (inkIn cells) (gatesOf net))
+    (i ≤ net .inputs) × (leavesOutFrom (net .levels) (net .inputs) (inkIn cells) (gatesOf net) i ≡ leavesOutOf (net .levels) (net .inputs) (inkIn cells)
+    (gatesOf net))
 
 abbrev μ-loop : tie.MeasureT-loop
 μ-loop net cells i₀ i = net .inputs - i
@@ -36,7 +35,8 @@ loop-again c =
     let a = start head .args in (
       omega arith,
       any-next _ _ (head .loop .i) (a .net .inputs) (turn .if1 .taken)
-          (used-kept (a .net .levels) (a .net .inputs) (inkIn (a .cells .now)) (gatesOf (a .net)) (head .loop .i) (sym (c .before .is-used .ensures) ∙ c .if2 .taken))
+          (used-kept (a .net .levels) (a .net .inputs) (inkIn (a .cells .now)) (gatesOf (a .net)) (head .loop .i)
+          (sym (c .before .is-used .ensures) ∙ c .if2 .taken))
           ∙ head .loop .inv .1,
     )
 
@@ -64,7 +64,8 @@ loop-again-2 c =
     let a = start head .args in (
       omega arith,
       any-next _ _ (head .loop .i) (a .net .inputs) (turn .if1 .taken)
-          (idle-kept (a .net .levels) (a .net .inputs) (inkIn (a .cells .now)) (gatesOf (a .net)) (head .loop .i) (sym (c .before .matters .ensures) ∙ c .if3 .left))
+          (idle-kept (a .net .levels) (a .net .inputs) (inkIn (a .cells .now)) (gatesOf (a .net)) (head .loop .i)
+          (sym (c .before .matters .ensures) ∙ c .if3 .left))
           ∙ head .loop .inv .1,
     )
 

@@ -1,9 +1,6 @@
 -- `loose_sheets::tidy::ends_at_top` terminates and reads no byte outside the sheet. The loop's invariant: the level compared is before the ink.
 -- Assumes nothing.
-use Prim.Native.Nat.{_+_, _≤_}
-use native.Mathlib.Omega.{arith}
-use lib.ListN.{length}
-use borrow.Author.Needs.{needs}
+use Rattle.laws.specs.Prelude.{_≤_, _+_, arith, length, needs}
 use Rattle.loose_sheets.proofs.tidy.ends_at_top.Statement.{statement}
 use Rattle.loose_sheets.proofs.tidy.ends_at_top.Tie as tie
 

@@ -1,11 +1,8 @@
 -- `loose_sheets::tidy::tidy_either` meets its contract: the sheet is read as strict, or else as loose.
 -- Assumes nothing.
-use Prim.Native.Nat.{ℕ}
-use native.Mathlib.Omega.{arith}
-use lib.ListN.{length-replicate}
+use Rattle.laws.specs.Prelude.{ℕ, arith, length-replicate, needs}
 use Rattle.rules.specs.Limits.{mostCells}
 use Rattle.loose_sheets.specs.Tidying.{strict-taken, strict-itself}
-use borrow.Author.Needs.{needs}
 use Rattle.loose_sheets.proofs.tidy.tidy_either.Statement.{statement}
 use Rattle.loose_sheets.proofs.tidy.tidy_either.Tie as tie
 

@@ -1,14 +1,10 @@
 -- `loose_sheets::tidy::tidy_loose` meets its contract: the sheet is read, then tidied.
 -- Assumes nothing.
-use Prim.Native.Nat.{ℕ}
-use mathlib.Core.Path.{sym}
-use native.Mathlib.Omega.{arith}
-use lib.ListN.{length-replicate}
+use Rattle.laws.specs.Prelude.{ℕ, sym, arith, length-replicate, needs}
 use Rattle.rules.specs.Limits.{mostCells}
 use Rattle.laws.specs.Calls.Tidying.{tidy-refused}
 use Rattle.loose_sheets.specs.Reader.Rows.{zeros-blank}
 use Rattle.loose_sheets.specs.Tidying.{loose-taken, loose-refused, not-itself}
-use borrow.Author.Needs.{needs}
 use Rattle.loose_sheets.proofs.tidy.tidy_loose.Statement.{statement}
 use Rattle.loose_sheets.proofs.tidy.tidy_loose.Tie as tie
 

@@ -1,8 +1,7 @@
 -- `loose_sheets::tidy::write_sheet` meets its contract: the sheet's length, then the sheet, copied or printed.
 -- Assumes nothing.
-use native.Mathlib.Omega.{arith}
+use Rattle.laws.specs.Prelude.{arith, needs}
 use Rattle.loose_sheets.specs.Tidying.{loose-output-short, loose-output-long, loose-output-written, itself-fits, itself-written}
-use borrow.Author.Needs.{needs}
 use Rattle.loose_sheets.proofs.tidy.write_sheet.Statement.{statement}
 use Rattle.loose_sheets.proofs.tidy.write_sheet.Tie as tie
 
@@ -23,14 +22,19 @@ copy-requires : tie.Need-copy-requires
 copy-requires c κs =
     let long = at-copy c in
     let start = at-start (long .before) in
-    omega (arith, itself-fits _ _ _ (start .pre .0) _ (long .before .table-length .ensures) (start .args .out .now) (long .if1 .left) (start .pre .2 (c .before .if2 .taken)))
+    omega (
+      arith,
+      itself-fits _ _ _ (start .pre .0) _ (long .before .table-length .ensures) (start .args .out .now) (long .if1 .left)
+          (start .pre .2 (c .before .if2 .taken)),
+    )
 
 returns-2 : tie.Need-returns-2
 returns-2 c =
     let copied = c .before .before in
     let long = at-copy (copied .before) in
     let start = at-start (long .before) in
-    itself-written _ _ _ (start .pre .0) _ (long .before .table-length .ensures) (start .args .out .now) (long .if1 .left) (start .pre .2 (copied .before .before .if2 .taken)) _ _ (copied .copy .ensures)
+    itself-written _ _ _ (start .pre .0) _ (long .before .table-length .ensures) (start .args .out .now) (long .if1 .left)
+    (start .pre .2 (copied .before .before .if2 .taken)) _ _ (copied .copy .ensures)
 
 print-table-requires : tie.Need-print-table-requires
 print-table-requires c κs =
@@ -43,7 +47,8 @@ returns-3 c =
     let printed = c .before .before in
     let long = at-print (printed .before) in
     let start = at-start (long .before) in
-    loose-output-written _ _ _ (start .pre .0) _ (long .before .table-length .ensures) (start .args .out .now) (long .if1 .left) _ _ (printed .print-table .ensures)
+    loose-output-written _ _ _ (start .pre .0) _ (long .before .table-length .ensures) (start .args .out .now) (long .if1 .left) _ _
+    (printed .print-table .ensures)
 
 pub write-sheet-spec : {M : Type 1} → statement M
 write-sheet-spec =

@@ -1,12 +1,12 @@
 -- `marks::all_groups::mark_all` meets its contract: both ways of marking do. Assumes nothing.
-use native.Mathlib.Omega.{arith}
+use Rattle.laws.specs.Prelude.{arith, needs}
 use Rattle.laws.specs.Numbers.Sizes.{sized}
-use borrow.Author.Needs.{needs}
 use Rattle.marks.proofs.all_groups.mark_all.Statement.{statement}
 use Rattle.marks.proofs.all_groups.mark_all.Tie as tie
 
 power-requires : tie.Need-power-requires
-power-requires c κs = let start = c .before .before .before in let fit = sized (start .args .m) (start .args .n) (start .pre .0 .size) in omega (arith, fit .levels-most, fit .inputs-most)
+power-requires c κs = let start = c .before .before .before in let fit =
+    sized (start .args .m) (start .args .n) (start .pre .0 .size) in omega (arith, fit .levels-most, fit .inputs-most)
 
 mark-small-requires : tie.Need-mark-small-requires
 mark-small-requires c κs =
@@ -16,6 +16,5 @@ mark-small-requires c κs =
 
 pub mark-all-spec : {M : Type 1} → statement M
 mark-all-spec =
-    tie.close
-    (tie.spec (λ c κs. search needs) (λ c. search needs) (λ c. search needs) power-requires (λ c κs. search needs) (λ c. search needs)
+    tie.close (tie.spec (λ c κs. search needs) (λ c. search needs) (λ c. search needs) power-requires (λ c κs. search needs) (λ c. search needs)
     (λ c. search needs) mark-small-requires (λ c. search needs) (λ c. search needs))

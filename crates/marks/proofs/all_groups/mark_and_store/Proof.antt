@@ -1,8 +1,7 @@
 -- `marks::all_groups::mark_and_store` meets its contract. Assumes nothing.
-use native.Mathlib.Omega.{arith}
+use Rattle.laws.specs.Prelude.{arith, needs}
 use Rattle.laws.specs.Numbers.Sizes.{sized}
 use Rattle.marks.specs.Marking.{marked-small, marked-into}
-use borrow.Author.Needs.{needs}
 use Rattle.marks.proofs.all_groups.mark_and_store.Statement.{statement}
 use Rattle.marks.proofs.all_groups.mark_and_store.Tie as tie
 
@@ -21,14 +20,15 @@ store-requires c κs =
       fit .inputs-least,
       omega (arith, fit .inputs-most),
       omega (arith, s .pre .1, marks .mark-all .kept .1 .1 .1 .0),
-      marked-small (marks .mark-all .ensures) (omega (arith, fit .levels-least)),
+      marked-small (marks .mark-all .ensures .0) (omega (arith, fit .levels-least)),
       s .pre .2,
     )
 
 returns : tie.Need-returns
 returns c =
     let store = c .before .before in
-    marked-into (at-marks (store .before) .mark-all .ensures) (store .store .ensures)
+    let did = at-marks (store .before) .mark-all .ensures in
+    (marked-into (did .0) (store .store .ensures), did .1)
 
 pub mark-and-store-spec : {M : Type 1} → statement M
 mark-and-store-spec = tie.close (tie.spec (λ c κs. search needs) store-requires (λ c. search needs) (λ c. search needs) returns)

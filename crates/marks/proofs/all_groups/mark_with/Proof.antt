@@ -1,15 +1,10 @@
 -- `marks::all_groups::mark_with` meets its contract: first the marks below the whole group, then its own. Assumes nothing.
-use Prim.Native.Nat.{_-_, _^_, _≤_, _<_}
-use mathlib.Core.Path.{_≡_, _∙_}
-use native.Mathlib.Omega.{arith}
-use lib.ListN.{length}
-use lib.Pow.{pow-pos, pow-mono}
+use Rattle.laws.specs.Prelude.{_<_, _≤_, _-_, _^_, _≡_, arith, length, needs, pow-mono, pow-pos}
 use Rattle.laws.specs.Numbers.Sizes.{Size, sized}
 use Rattle.rules.specs.Calls.Answers.{inkIn}
 use Rattle.rules.specs.Groups.Groups.{wholeGroup}
-use Rattle.marks.specs.Fast.Below.{whole-number, stored-whole-mark}
+use Rattle.marks.specs.Fast.Below.{whole-number, whole-mark}
 use Rattle.marks.specs.Marking.{has-room, below-whole}
-use borrow.Author.Needs.{needs}
 use Rattle.marks.proofs.all_groups.mark_with.Statement.{statement}
 use Rattle.marks.proofs.all_groups.mark_with.Tie as tie
 
@@ -40,7 +35,7 @@ room : (c : tie.After-mark-below) → 2 ^ below-start c .args .n ≤ length (c .
 room c =
     let start = below-start c in
     let a = start .args in
-    has-room (a .m) (a .n) (inkIn (a .cells .now)) (a .marks .now) (start .pre .1) (2 ^ a .n - 1) _ (c .mark-below .ensures)
+    has-room (a .m) (a .n) (inkIn (a .cells .now)) (a .marks .now) (start .pre .1) (2 ^ a .n - 1) _ (c .mark-below .ensures .marked)
 
 weights-requires : tie.Need-weights-requires
 weights-requires c κs = let fit = fitted (at-start c) in omega (arith, fit .levels-least, fit .cells-most, fit .inputs-most)
@@ -74,11 +69,12 @@ sub-whole : tie.Need-sub-whole
 sub-whole c = omega (arith, c .power .ensures, pow-pos (whole-start c .args .n))
 
 -- the whole group's number
-number : (c : tie.After-power) → (c .power .result - 1 ≡ wholeGroup (whole-start c .args .n)) × (0 < c .power .result - 1) × (c .power .result - 1 < 2 ^ whole-start c .args .n)
+number : (c : tie.After-power)
+    → (c .power .result - 1 ≡ wholeGroup (whole-start c .args .n)) × (0 < c .power .result - 1) × (c .power .result - 1 < 2 ^ whole-start c .args .n)
 number c = let fit = fitted (whole-start c) in whole-number (whole-start c .args .n) (c .power .result) (omega (arith, fit .inputs-least)) (c .power .ensures)
 
-few-mark-requires : tie.Need-few-mark-requires
-few-mark-requires c κs =
+mark-without-requires : tie.Need-mark-without-requires
+mark-without-requires c κs =
     let power = c .before in
     let g = number power in
     (g .1, omega (arith, g .2, pow-mono (fitted (whole-start power) .inputs-most)), omega (arith, g .2, room (at-below (power .before))))
@@ -96,13 +92,15 @@ returns c =
     let a = start .args in
     let g = number power in
     let f = inkIn (a .cells .now) in
-    below-whole (a .m) (a .n) f (a .marks .now) (start .pre .1) _ (below .mark-below .ensures) _ (omega (arith, power .power .ensures)) _
-    (few .few-mark .ensures (a .n) (g .2) ∙ stored-whole-mark (a .m) (a .n) f _ _ (omega (arith, fitted start .levels-least)) (g .1) (g .0) (start .pre .0 .levels)) _
-    (put .put-mark .ensures)
+    let is-whole : power .power .result - 1 ≡ 2 ^ a .n - 1 = omega (arith, power .power .ensures) in (
+      below-whole (a .m) (a .n) f (a .marks .now) (start .pre .1) _ (below .mark-below .ensures .marked) _ is-whole _
+          (whole-mark (omega (arith, fitted start .levels-least)) (g .1) (g .0) is-whole (start .pre .0 .levels) (below .mark-below .ensures)
+          (few .mark-without .ensures)) _
+          (put .put-mark .ensures),
+      below .mark-below .ensures .exact (fitted start .inputs-least),
+    )
 
 pub mark-with-spec : {M : Type 1} → statement M
 mark-with-spec =
-    tie.close
-    (tie.spec (λ c. search needs) weights-requires (λ c. search needs) (λ c. search needs) mark-below-requires power-requires sub-whole
-    few-mark-requires put-mark-requires (λ c. search needs) (λ c. search needs) (λ c. search needs) (λ c. search needs) (λ c. search needs)
-    returns)
+    tie.close (tie.spec (λ c. search needs) weights-requires (λ c. search needs) (λ c. search needs) mark-below-requires power-requires sub-whole
+    mark-without-requires put-mark-requires (λ c. search needs) (λ c. search needs) (λ c. search needs) (λ c. search needs) (λ c. search needs) returns)

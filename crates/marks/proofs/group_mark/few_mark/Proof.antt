@@ -10,16 +10,21 @@ at-start c = c .before .before
 
 returns : tie.Need-returns
 returns c = λ n g<.
-    mark-single n (at-start (c .before) .args .marks .now) (at-start (c .before) .args .g) (at-start (c .before) .pre .0) g< (c .before .without-first .result) (c .before .without-first .ensures n g<) (c .if1 .taken)
+    mark-single n (at-start (c .before) .args .marks .now) (at-start (c .before) .args .g) (at-start (c .before) .pre .0) g< (c .before .without-first .result)
+    (c .before .without-first .ensures n g<) (c .if1 .taken)
 
 returns-2 : tie.Need-returns-2
 returns-2 c = λ n g<.
-    mark-parted n (at-start (c .before .before .before) .args .marks .now) (at-start (c .before .before .before) .args .g) (at-start (c .before .before .before) .pre .0) g< (c .before .before .before .without-first .result) (c .before .before .before .without-first .ensures n g<) (c .before .before .if1 .left)
+    mark-parted n (at-start (c .before .before .before) .args .marks .now) (at-start (c .before .before .before) .args .g)
+    (at-start (c .before .before .before) .pre .0) g< (c .before .before .before .without-first .result)
+    (c .before .before .before .without-first .ensures n g<) (c .before .before .if1 .left)
     (c .before .split-of .result) (c .before .split-of .ensures n g<) (c .if2 .taken)
 
 returns-3 : tie.Need-returns-3
 returns-3 c = λ n g<.
-    mark-one n (at-start (c .before .before .before) .args .marks .now) (at-start (c .before .before .before) .args .g) (at-start (c .before .before .before) .pre .0) g< (c .before .before .before .without-first .result) (c .before .before .before .without-first .ensures n g<) (c .before .before .if1 .left)
+    mark-one n (at-start (c .before .before .before) .args .marks .now) (at-start (c .before .before .before) .args .g)
+    (at-start (c .before .before .before) .pre .0) g< (c .before .before .before .without-first .result)
+    (c .before .before .before .without-first .ensures n g<) (c .before .before .if1 .left)
     (c .before .split-of .result) (c .before .split-of .ensures n g<) (c .if2 .left)
 
 pub few-mark-spec : {M : Type 1} → statement M

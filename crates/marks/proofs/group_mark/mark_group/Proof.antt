@@ -1,11 +1,6 @@
 -- `marks::group_mark::mark_group` meets its contract: the empty group, a group with too many classes, or the mark of a group with few.
 -- Assumes nothing.
-use mathlib.Core.Path.{sym, _∙_}
-use native.Mathlib.Nat.{lt-of-lt-of-le}
-use native.Mathlib.Omega.{arith}
-use lib.Pow.{pow-mono}
-use borrow.Author.Needs.{needs}
-use borrow.Author.Tests.{ltb-true, ltb-false}
+use Rattle.laws.specs.Prelude.{_∙_, sym, lt-of-lt-of-le, arith, ltb-true, ltb-false, needs, pow-mono}
 use Rattle.marks.specs.GroupRule.{mark-empty, many-mark, few-mark}
 use Rattle.marks.proofs.group_mark.mark_group.Statement.{statement}
 use Rattle.marks.proofs.group_mark.mark_group.Tie as tie

@@ -1,8 +1,7 @@
 -- `marks::marking::mark_into` meets its contract: refusal 14, or the stored marks and the answer. Assumes nothing.
-use native.Mathlib.Omega.{arith}
+use Rattle.laws.specs.Prelude.{arith, needs}
 use Rattle.laws.specs.Numbers.Sizes.{sized}
 use Rattle.marks.specs.Marked.{marks-short, marks-written}
-use borrow.Author.Needs.{needs}
 use Rattle.marks.proofs.marking.mark_into.Statement.{statement}
 use Rattle.marks.proofs.marking.mark_into.Tie as tie
 
@@ -30,7 +29,8 @@ returns-2 c =
     let fits = did .before .before .before in
     let need = fits .before .marks-length in
     let a = at-start (fits .before) .args in
-    marks-written (a .m) (a .n) (a .cells .now) (a .buffer .now) (need .result) (need .ensures) (fits .if1 .left) (did .store-large .result) _ (did .store-large .ensures)
+    marks-written (a .m) (a .n) (a .cells .now) (a .buffer .now) (need .result) (need .ensures) (fits .if1 .left) (did .store-large .result) _
+    (did .store-large .ensures)
 
 store-small-requires : tie.Need-store-small-requires
 store-small-requires c κs =
@@ -44,10 +44,10 @@ returns-3 c =
     let fits = did .before .before .before in
     let need = fits .before .marks-length in
     let a = at-start (fits .before) .args in
-    marks-written (a .m) (a .n) (a .cells .now) (a .buffer .now) (need .result) (need .ensures) (fits .if1 .left) (did .store-small .result) _ (did .store-small .ensures)
+    marks-written (a .m) (a .n) (a .cells .now) (a .buffer .now) (need .result) (need .ensures) (fits .if1 .left) (did .store-small .result) _
+    (did .store-small .ensures)
 
 pub mark-into-spec : {M : Type 1} → statement M
 mark-into-spec =
-    tie.close
-    (tie.spec marks-length-requires returns store-large-requires (λ c. search needs) (λ c. search needs) returns-2 store-small-requires
+    tie.close (tie.spec marks-length-requires returns store-large-requires (λ c. search needs) (λ c. search needs) returns-2 store-small-requires
     (λ c. search needs) (λ c. search needs) returns-3)

@@ -1,9 +1,8 @@
 -- `marks::marking::marking` meets its contract: the refusal of the bare cells, or the result of marking. Assumes nothing.
-use mathlib.Core.Path.{sym, ap, _∙_}
+use Rattle.laws.specs.Prelude.{_∙_, sym, ap, needs}
 use Rattle.answers.specs.AnswerMaps.{outcomeAs}
 use Rattle.cells.specs.Full.{accepted-full}
 use Rattle.marks.specs.Marked.{marking-refused, marking-judged}
-use borrow.Author.Needs.{needs}
 use Rattle.marks.proofs.marking.marking.Statement.{statement}
 use Rattle.marks.proofs.marking.marking.Tie as tie
 
@@ -27,7 +26,8 @@ returns-2 : tie.Need-returns-2
 returns-2 c =
     let a = at-start (at-bare (c .before .before .before)) .args in
     c .before .before .mark-into .ensures
-    ∙ marking-judged (a .m) (a .n) (a .cells .now) (a .marks .now) (sym (ap (outcomeAs tt) (c .before .before .before .before .enum-told .given .1)) ∙ at-bare (c .before .before .before) .full-cells .ensures)
+    ∙ marking-judged (a .m) (a .n) (a .cells .now) (a .marks .now)
+    (sym (ap (outcomeAs tt) (c .before .before .before .before .enum-told .given .1)) ∙ at-bare (c .before .before .before) .full-cells .ensures)
 
 pub marking-spec : {M : Type 1} → statement M
 marking-spec =

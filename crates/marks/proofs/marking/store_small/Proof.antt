@@ -1,8 +1,6 @@
 -- `marks::marking::store_small` meets its contract: its marks array is long enough. Assumes nothing.
-use native.Mathlib.Omega.{arith}
-use lib.Pow.{pow-mono}
+use Rattle.laws.specs.Prelude.{arith, needs, pow-mono}
 use Rattle.marks.specs.Marking.{marked-stored}
-use borrow.Author.Needs.{needs}
 use Rattle.marks.proofs.marking.store_small.Statement.{statement}
 use Rattle.marks.proofs.marking.store_small.Tie as tie
 
@@ -12,7 +10,7 @@ mark-and-store-requires c κs =
     (start .pre .0, omega (arith, pow-mono (start .pre .2)), start .pre .1)
 
 returns : tie.Need-returns
-returns c = marked-stored (c .before .before .before .mark-and-store .ensures)
+returns c = marked-stored (c .before .before .before .mark-and-store .ensures .0)
 
 pub store-small-spec : {M : Type 1} → statement M
 store-small-spec = tie.close (tie.spec (λ c. search needs) mark-and-store-requires (λ c. search needs) returns)

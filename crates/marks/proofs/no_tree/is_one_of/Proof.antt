@@ -1,8 +1,5 @@
 -- `marks::no_tree::is_one_of` meets its contract. Assumes nothing.
-use mathlib.Core.Path.{sym, _∙_}
-use mathlib.Core.Bool.{and-true, and-false}
-use borrow.Author.Needs.{needs}
-use borrow.Author.Tests.{eq-eqb, ne-eqb}
+use Rattle.laws.specs.Prelude.{_∙_, sym, and-false, and-true, eq-eqb, ne-eqb, needs}
 use Rattle.marks.proofs.no_tree.is_one_of.Statement.{statement}
 use Rattle.marks.proofs.no_tree.is_one_of.Tie as tie
 

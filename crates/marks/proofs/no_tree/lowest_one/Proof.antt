@@ -1,8 +1,6 @@
 -- `marks::no_tree::lowest_one` meets its contract. The loop's invariant: the search from the current group on gives the same
 -- result. Assumes nothing.
-use Prim.Native.Nat.{_-_, _≤_}
-use mathlib.Core.Path.{_≡_, refl, sym, _∙_}
-use native.Mathlib.Omega.{arith}
+use Rattle.laws.specs.Prelude.{_≤_, _-_, _≡_, _∙_, sym, refl, arith}
 use Rattle.marks.specs.NoTreePlace.{lowest, lowest-here, lowest-next, lowest-past}
 use Rattle.marks.proofs.no_tree.lowest_one.Statement.{statement}
 use Rattle.marks.proofs.no_tree.lowest_one.Tie as tie

@@ -1,8 +1,6 @@
 -- `marks::no_tree::no_tree_place` meets its contract. The loop's invariant: the search from the current size on gives the same
 -- result. Assumes nothing.
-use Prim.Native.Nat.{_+_, _-_, _≤_}
-use mathlib.Core.Path.{_≡_, refl, sym, _∙_}
-use native.Mathlib.Omega.{arith}
+use Rattle.laws.specs.Prelude.{_≤_, _+_, _-_, _≡_, _∙_, sym, refl, arith}
 use Rattle.marks.specs.NoTreePlace.{placeFrom, place-here, mark-place-next, place-none, place-found, place-missing}
 use Rattle.marks.proofs.no_tree.no_tree_place.Statement.{statement}
 use Rattle.marks.proofs.no_tree.no_tree_place.Tie as tie
@@ -25,12 +23,14 @@ returns : tie.Need-returns Inv-loop μ-loop
 returns c =
     place-found _ _ _
     (sym (c .before .before .before .loop .inv .1)
-    ∙ place-here _ _ _ (c .before .before .loop-test .taken) _ _ (c .before .before .before .before .power .ensures) (c .before .lowest-one .ensures) (c .if1 .taken))
+    ∙ place-here _ _ _ (c .before .before .loop-test .taken) _ _ (c .before .before .before .before .power .ensures) (c .before .lowest-one .ensures)
+    (c .if1 .taken))
 
 loop-again : tie.Need-loop-again Inv-loop μ-loop
 loop-again c = (
   omega arith,
-  mark-place-next _ _ _ (c .before .before .loop-test .taken) _ _ (c .before .before .before .before .power .ensures) (c .before .lowest-one .ensures) (c .if1 .left)
+  mark-place-next _ _ _ (c .before .before .loop-test .taken) _ _ (c .before .before .before .before .power .ensures) (c .before .lowest-one .ensures)
+      (c .if1 .left)
       ∙ c .before .before .before .loop .inv .1,
 )
 
@@ -39,6 +39,5 @@ returns-2 c = place-missing _ _ (sym (c .before .loop .inv .1) ∙ place-none _ 
 
 pub no-tree-place-spec : {M : Type 1} → statement M
 no-tree-place-spec =
-    tie.close
-    (tie.spec Inv-loop μ-loop (λ c κs. omega arith) loop-holds lowest-one-requires returns (λ c. omega arith) (λ c. omega arith) loop-again
+    tie.close (tie.spec Inv-loop μ-loop (λ c κs. omega arith) loop-holds lowest-one-requires returns (λ c. omega arith) (λ c. omega arith) loop-again
     returns-2)

@@ -1,6 +1,5 @@
 -- `marks::own::put_mark` meets its contract: a mark is the byte at its group's number. Assumes nothing.
-use mathlib.Core.Path.{refl}
-use borrow.Author.Needs.{needs}
+use Rattle.laws.specs.Prelude.{refl, needs}
 use Rattle.marks.proofs.own.put_mark.Statement.{statement}
 use Rattle.marks.proofs.own.put_mark.Tie as tie
 

@@ -1,8 +1,5 @@
 -- `marks::packing::four` meets its contract: four marks of two bits fill a byte. Assumes nothing.
-use Prim.Native.Nat.{ℕ, _+_, _<_}
-use native.Mathlib.Omega.{arith}
-use lib.ListN.{getD}
-use borrow.Author.Needs.{needs}
+use Rattle.laws.specs.Prelude.{ℕ, _<_, _+_, arith, getD, needs}
 use Rattle.marks.proofs.packing.four.Statement.{statement}
 use Rattle.marks.proofs.packing.four.Tie as tie
 

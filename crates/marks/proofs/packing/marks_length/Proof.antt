@@ -1,8 +1,6 @@
 -- `marks::packing::marks_length` meets its contract: one byte for every four groups. Assumes nothing.
-use Prim.Native.Nat.{ℕ, _/_}
-use mathlib.Core.Path.{ap}
+use Rattle.laws.specs.Prelude.{ℕ, _/_, ap, needs}
 use Rattle.rules.specs.Groups.Marks.{marksLength}
-use borrow.Author.Needs.{needs}
 use Rattle.marks.proofs.packing.marks_length.Statement.{statement}
 use Rattle.marks.proofs.packing.marks_length.Tie as tie
 

@@ -1,15 +1,10 @@
 -- `marks::packing::store` meets its contract. The loop's invariant: the bytes of the marks below g, a multiple of four, are at the buffer's front.
 -- Assumes nothing.
-use Prim.Native.Nat.{ℕ, _+_, _-_, _*_, _/_, _^_, _≤_, _<_}
-use mathlib.Core.Path.{_≡_, refl, ap, _∙_}
-use native.Mathlib.Omega.{arith}
-use lib.ListN.{length, take, set, length-set}
-use lib.Pow.{pow-mono}
+use Rattle.laws.specs.Prelude.{ℕ, _<_, _≤_, _+_, _-_, _^_, _*_, _/_, _≡_, _∙_, ap, refl, arith, length, take, set, length-set, needs, pow-mono}
 use Rattle.rules.specs.Groups.Marks.{storedMarks}
 use Rattle.rules.specs.Calls.Answers.{written}
 use Rattle.laws.specs.Nets.StoredMarks.{four-groups}
 use Rattle.marks.proofs.FourMarks.{packed-next}
-use borrow.Author.Needs.{needs}
 use Rattle.marks.proofs.packing.store.Statement.{statement}
 use Rattle.marks.proofs.packing.store.Tie as tie
 
@@ -74,6 +69,5 @@ returns c =
 
 pub store-spec : {M : Type 1} → statement M
 store-spec =
-    tie.close
-    (tie.spec Inv-loop μ-loop (λ c κs. search needs) loop-holds add-loop four-requires slice-write-buffer add-g
+    tie.close (tie.spec Inv-loop μ-loop (λ c κs. search needs) loop-holds add-loop four-requires slice-write-buffer add-g
     (λ c. omega (arith, at-turn c .loop-test .taken)) loop-again (λ c. c .before .loop .inv .2) returns)

@@ -1,7 +1,5 @@
 -- `marks::split::both_two` meets its contract: one test after the other. Assumes nothing.
-use mathlib.Core.Path.{sym, _∙_}
-use borrow.Author.Tests.{eq-eqb, ne-eqb}
-use borrow.Author.Needs.{needs}
+use Rattle.laws.specs.Prelude.{_∙_, sym, eq-eqb, ne-eqb, needs}
 use Rattle.marks.proofs.split.both_two.Statement.{statement}
 use Rattle.marks.proofs.split.both_two.Tie as tie
 

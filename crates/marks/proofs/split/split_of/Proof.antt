@@ -1,8 +1,6 @@
 -- `marks::split::split_of` meets its contract. The loop's invariant: the search from the current part on gives the same result.
 -- Assumes nothing.
-use Prim.Native.Nat.{_+_, _-_, _<_}
-use mathlib.Core.Path.{sym, _∙_}
-use native.Mathlib.Omega.{arith}
+use Rattle.laws.specs.Prelude.{_<_, _+_, _-_, _∙_, sym, arith}
 use Rattle.rules.specs.Nets.Settled.{splitOf}
 use Rattle.radix.specs.Widths.{mostMembers}
 use Rattle.marks.specs.FirstParts.{settledTest, settled-looked}
@@ -31,9 +29,11 @@ module _ (c : tie.In-loop Inv-loop μ-loop) where
   abbrev rest : tie.After-without-first Inv-loop μ-loop
   rest = at-first (c .before)
 
-  there : (0 < (start .args .g - rest .without-first .result) + c .before .loop .part) × ((start .args .g - rest .without-first .result) + c .before .loop .part < start .args .g)
+  there : (0 < (start .args .g - rest .without-first .result) + c .before .loop .part)
+      × ((start .args .g - rest .without-first .result) + c .before .loop .part < start .args .g)
   there =
-      let a = part-looked-at _ _ (start .args .g) (rest .without-first .result) (settled-looked (start .args .marks .now) (start .args .g)) (start .pre .0) (rest .without-first .ensures) (c .before .loop .part) (c .before .loop .inv) (c .loop-test .taken) mostMembers (start .pre .1) in
+      let a = part-looked-at _ _ (start .args .g) (rest .without-first .result) (settled-looked (start .args .marks .now) (start .args .g)) (start .pre .0)
+      (rest .without-first .ensures) (c .before .loop .part) (c .before .loop .inv) (c .loop-test .taken) mostMembers (start .pre .1) in
       (a .0, a .1)
 
 sub-first : tie.Need-sub-first Inv-loop μ-loop
@@ -42,7 +42,8 @@ sub-first c = omega (arith, c .without-first .ensures mostMembers (at-start c .p
 loop-holds : tie.Need-loop-holds Inv-loop μ-loop
 loop-holds c =
     let start = at-start c in
-    sought-none _ _ (start .args .g) (c .without-first .result) (settled-looked (start .args .marks .now) (start .args .g)) (start .pre .0) (c .without-first .ensures)
+    sought-none _ _ (start .args .g) (c .without-first .result) (settled-looked (start .args .marks .now) (start .args .g)) (start .pre .0)
+    (c .without-first .ensures)
 
 returns : tie.Need-returns Inv-loop μ-loop
 unfolding splitOf
@@ -50,7 +51,8 @@ returns c =
     let turn = c .before .before in
     let start = start turn in
     let l = turn .before .loop in
-    sought-found _ _ (start .args .g) (rest turn .without-first .result) (settled-looked (start .args .marks .now) (start .args .g)) (start .pre .0) (rest turn .without-first .ensures) (l .part) (l .inv) (turn .loop-test .taken)
+    sought-found _ _ (start .args .g) (rest turn .without-first .result) (settled-looked (start .args .marks .now) (start .args .g)) (start .pre .0)
+    (rest turn .without-first .ensures) (l .part) (l .inv) (turn .loop-test .taken)
     (sym (c .before .both-two .ensures) ∙ c .if1 .taken)
 
 next-part-requires : tie.Need-next-part-requires Inv-loop μ-loop
@@ -66,7 +68,8 @@ loop-again c =
     let turn = c .before .before .before in
     let start = start turn in
     let l = turn .before .loop in
-    sought-next _ _ (start .args .g) (rest turn .without-first .result) (settled-looked (start .args .marks .now) (start .args .g)) (start .pre .0) (rest turn .without-first .ensures) (l .part) (l .inv) (turn .loop-test .taken)
+    sought-next _ _ (start .args .g) (rest turn .without-first .result) (settled-looked (start .args .marks .now) (start .args .g)) (start .pre .0)
+    (rest turn .without-first .ensures) (l .part) (l .inv) (turn .loop-test .taken)
     (sym (c .before .before .both-two .ensures) ∙ c .before .if1 .left) (c .next-part .result) (c .next-part .ensures)
 
 returns-2 : tie.Need-returns-2 Inv-loop μ-loop
@@ -75,7 +78,8 @@ returns-2 c =
     let start = at-start (at-first (c .before)) in
     let w = at-first (c .before) .without-first in
     let l = c .before .loop in
-    sought-all _ _ (start .args .g) (w .result) (settled-looked (start .args .marks .now) (start .args .g)) (start .pre .0) (w .ensures) (l .part) (l .inv) (c .loop-test .left)
+    sought-all _ _ (start .args .g) (w .result) (settled-looked (start .args .marks .now) (start .args .g)) (start .pre .0) (w .ensures) (l .part) (l .inv)
+    (c .loop-test .left)
 
 pub split-of-spec : {M : Type 1} → statement M
 split-of-spec =

@@ -1,9 +1,5 @@
 -- `nets::layers::layers` meets its contract. The loop's invariant: the layers of the first k gates are known. Assumes nothing.
-use Prim.Native.Nat.{ℕ, _-_, _+_, _≤_, _<_}
-use mathlib.Core.Path.{refl}
-use mathlib.Core.List.{List}
-use native.Mathlib.Omega.{arith}
-use borrow.Author.Needs.{needs}
+use Rattle.laws.specs.Prelude.{ℕ, _<_, _≤_, _+_, _-_, refl, List, arith, needs}
 use Rattle.nets.specs.declared.forms.Net.{Net}
 use Rattle.nets.specs.Room.{mostWires}
 use Rattle.nets.specs.Sound.{Sound, gates-pos, wires-room}
@@ -77,10 +73,8 @@ returns c =
 
 pub layers-spec : {M : Type 1} → statement M
 layers-spec =
-    tie.close
-    (tie.spec Inv-loop μ-loop loop-holds (λ c. omega (arith, step c)) (λ c. omega (arith, step c)) (λ c. omega (arith, step c))
-    (λ c. omega (arith, step c)) (λ c. omega (arith, step c)) (λ c. omega (arith, step c)) (λ c. omega (arith, step c))
-    (λ c. omega (arith, step c)) (λ c κs. search needs) add-depths (λ c. omega (arith, step (at-turn c)))
-    (λ c. omega (arith, step (at-turn c))) (λ c. omega (arith, step (at-turn c))) (λ c. omega (arith, step (at-turn c)))
-    (λ c. omega (arith, at-turn c .if1 .taken)) loop-again (λ c. omega (arith, wires (at-end c))) (λ c. omega (arith, wires (at-end c)))
-    (λ c. omega (arith, wires (at-end c))) (λ c. omega (arith, wires (at-end c))) returns)
+    tie.close (tie.spec Inv-loop μ-loop loop-holds (λ c. omega (arith, step c)) (λ c. omega (arith, step c)) (λ c. omega (arith, step c))
+    (λ c. omega (arith, step c)) (λ c. omega (arith, step c)) (λ c. omega (arith, step c)) (λ c. omega (arith, step c)) (λ c. omega (arith, step c))
+    (λ c κs. search needs) add-depths (λ c. omega (arith, step (at-turn c))) (λ c. omega (arith, step (at-turn c))) (λ c. omega (arith, step (at-turn c)))
+    (λ c. omega (arith, step (at-turn c))) (λ c. omega (arith, at-turn c .if1 .taken)) loop-again (λ c. omega (arith, wires (at-end c)))
+    (λ c. omega (arith, wires (at-end c))) (λ c. omega (arith, wires (at-end c))) (λ c. omega (arith, wires (at-end c))) returns)

@@ -1,9 +1,5 @@
 -- `programs::input::front` meets its contract. Assumes nothing.
-use mathlib.Core.Path.{sym, ap}
-use native.Mathlib.Nat.{sub-zero}
-use lib.ListN.{take}
-use lib.Seq.{take-all}
-use borrow.Author.Needs.{needs}
+use Rattle.laws.specs.Prelude.{sym, ap, sub-zero, take, take-all, needs}
 use Rattle.programs.proofs.input.front.Statement.{statement}
 use Rattle.programs.proofs.input.front.Tie as tie
 

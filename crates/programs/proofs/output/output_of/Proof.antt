@@ -29,6 +29,5 @@ returns-2 c =
 
 pub output-of-spec : {M : Type 1} → statement M
 output-of-spec =
-    tie.close
-    (tie.spec (λ c. search needs) (λ c κs. search needs) (λ c. search needs) copy-requires (λ c. search needs) (λ c. search needs)
+    tie.close (tie.spec (λ c. search needs) (λ c κs. search needs) (λ c. search needs) copy-requires (λ c. search needs) (λ c. search needs)
     (λ c κs. search needs) returns returns-2)

@@ -1,6 +1,5 @@
 -- `programs::output::tidy_output` meets its contract. Assumes nothing.
-use borrow.Author.Needs.{needs}
-use mathlib.Core.Path.{ap, _∙_, subst}
+use Rattle.laws.specs.Prelude.{_∙_, ap, subst, needs}
 use Rattle.rules.specs.Limits.{mostCells, mostRead}
 use Rattle.rules.specs.Calls.Programs.{programOutput, zeros}
 use Rattle.rules.specs.Calls.Tidying.{Tidied, tidyCall, tidyProgram}

@@ -1,9 +1,6 @@
 -- `programs::refusal::print_refusal` meets its contract: 55 bytes suffice for every number and place.
 -- Assumes nothing.
-use Prim.Native.Nat.{_≤_}
-use native.Mathlib.Omega.{arith}
-use borrow.Author.Needs.{needs}
-use lib.ListN.{length}
+use Rattle.laws.specs.Prelude.{_≤_, arith, length, needs}
 use Rattle.rules.specs.Text.{space, newline, text}
 use Rattle.rules.specs.Sheets.Printed.{line}
 use Rattle.rules.specs.Calls.Programs.{refusalLines}

@@ -1,9 +1,6 @@
 -- `radix::levels::next_levels` meets its contract. The loop's invariant: stepping the first i levels from here gives what stepping the
 -- first n gives at the start. Assumes nothing.
-use Prim.Native.Nat.{_-_, _≤_}
-use mathlib.Core.Path.{_≡_, refl, sym, _∙_}
-use native.Mathlib.Omega.{arith}
-use lib.ListN.{length, length-set}
+use Rattle.laws.specs.Prelude.{_≤_, _-_, _≡_, _∙_, sym, refl, arith, length, length-set}
 use Rattle.radix.proofs.Stepping.{stepped, step-none, step-up, step-turn}
 use Rattle.radix.proofs.levels.next_levels.Statement.{statement}
 use Rattle.radix.proofs.levels.next_levels.Tie as tie
@@ -39,8 +36,7 @@ returns-2 c = sym (step-none _ (c .before .loop .i) (c .before .loop .levels) (o
 
 pub next-levels-spec : {M : Type 1} → statement M
 next-levels-spec =
-    tie.close (tie.spec Inv-loop μ-loop loop-holds (λ c. omega arith) (λ c. omega arith)
-    (λ c. omega (arith, c .slice-known .given (at-loop c .loop .i - 1)))
-    (λ c. omega (arith, c .slice-known .given (at-loop c .loop .i - 1))) (λ c. omega (arith, at-loop (c .before) .before .pre))
-    (λ c. omega arith) (λ c. simp length-set (at-loop (c .before) .loop .inv .1)) returns (λ c. omega arith) (λ c. omega arith) loop-again
-    (λ c. c .before .loop .inv .1) returns-2)
+    tie.close (tie.spec Inv-loop μ-loop loop-holds (λ c. omega arith) (λ c. omega arith) (λ c. omega (arith, c .slice-known .given (at-loop c .loop .i - 1)))
+    (λ c. omega (arith, c .slice-known .given (at-loop c .loop .i - 1))) (λ c. omega (arith, at-loop (c .before) .before .pre)) (λ c. omega arith)
+    (λ c. simp length-set (at-loop (c .before) .loop .inv .1)) returns (λ c. omega arith) (λ c. omega arith) loop-again (λ c. c .before .loop .inv .1)
+    returns-2)

@@ -1,11 +1,6 @@
 -- `radix::members::first_input` meets its contract. The loop's invariant: the first place from `i` on is the first of all. Assumes
 -- nothing.
-use Prim.Native.Nat.{ℕ, _+_, _-_, _≤_, _<_}
-use mathlib.Core.Path.{_≡_, sym, ap, _∙_}
-use mathlib.Core.Bool.{Bool}
-use native.Mathlib.Nat.{zero-add}
-use native.Mathlib.Omega.{arith}
-use lib.ListN.{getD, drop}
+use Rattle.laws.specs.Prelude.{ℕ, _<_, _≤_, _+_, _-_, _≡_, _∙_, sym, ap, Bool, zero-add, arith, getD, drop}
 use Rattle.rules.specs.Lists.{range, firstPlace}
 use Rattle.rules.specs.Groups.Groups.{member}
 use Rattle.rules.specs.Nets.Wirings.{firstInput}

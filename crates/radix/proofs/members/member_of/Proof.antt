@@ -1,6 +1,5 @@
 -- `radix::members::member_of` meets its contract: a shift is a division by a power of two. Assumes nothing.
-use mathlib.Core.Path.{refl}
-use borrow.Author.Needs.{needs}
+use Rattle.laws.specs.Prelude.{refl, needs}
 use Rattle.rules.specs.Groups.Groups.{member}
 use Rattle.radix.proofs.members.member_of.Statement.{statement}
 use Rattle.radix.proofs.members.member_of.Tie as tie

@@ -1,9 +1,6 @@
 -- `radix::members::members` meets its contract. The loop's invariant: the members so far, plus those among the inputs that are
 -- left, are all members. Assumes nothing.
-use Prim.Native.Nat.{suc, _+_, _-_, _≤_}
-use mathlib.Core.Path.{_≡_, ap}
-use native.Mathlib.Nat.{sub-zero}
-use native.Mathlib.Omega.{arith}
+use Rattle.laws.specs.Prelude.{_≤_, _+_, _-_, suc, _≡_, ap, sub-zero, arith}
 use Rattle.rules.specs.Groups.Groups.{size}
 use Rattle.trees.specs.Groups.Members.{size-suc, size-le}
 use Rattle.radix.proofs.members.members.Statement.{statement}

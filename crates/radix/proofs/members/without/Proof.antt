@@ -1,7 +1,6 @@
 -- `radix::members::without` meets its contract: a group has at least the members that it shares. Assumes nothing.
-use native.Mathlib.Omega.{arith}
+use Rattle.laws.specs.Prelude.{arith, needs}
 use lib.Bits.{and-le-l}
-use borrow.Author.Needs.{needs}
 use Rattle.radix.proofs.members.without.Statement.{statement}
 use Rattle.radix.proofs.members.without.Tie as tie
 

@@ -1,9 +1,7 @@
 -- `radix::offsets::offsets` meets its contract. The loop's invariant: the offsets are those of the inputs from `i` on.
 -- Assumes nothing.
-use mathlib.Core.Path.{_≡_, refl, sym, _∙_}
-use native.Mathlib.Omega.{arith}
-use native.Mathlib.Nat.{one-le-pow}
-use lib.ListN.{length, length-set}
+use Rattle.laws.specs.Prelude.{_≡_, _∙_, sym, refl, one-le-pow, arith, length, length-set}
+use Rattle.rules.specs.Groups.Groups.{size}
 use Rattle.radix.proofs.Building.{Built, built-none, built-all, built-some, built-weight, built-below, built-next, built-room, built-member, built-other}
 use Rattle.radix.proofs.offsets.offsets.Statement.{statement}
 use Rattle.radix.proofs.offsets.offsets.Tie as tie
@@ -28,12 +26,12 @@ abbrev at-widen : tie.After-slice-known2 Inv-loop μ-loop → tie.After-widen In
 at-widen c = c .before .before
 
 slice-write-out : tie.Need-slice-write-out Inv-loop μ-loop
-slice-write-out c = omega (arith, one-le-pow (c .before .args .n) (c .before .args .m) (c .before .pre .0))
+slice-write-out c = let a = c .before .args in omega (arith, one-le-pow (size (a .n) (a .g)) (a .m) (c .before .pre .0))
 
 loop-holds : tie.Need-loop-holds Inv-loop μ-loop
 loop-holds c =
     let a = c .before .args in
-    (refl, built-none (a .m) (a .n) (a .g) (a .out .now) (omega (arith, one-le-pow (a .n) (a .m) (c .before .pre .0))))
+    (refl, built-none (a .m) (a .n) (a .g) (a .out .now) (omega (arith, one-le-pow (size (a .n) (a .g)) (a .m) (c .before .pre .0))))
 
 cast-widen : tie.Need-cast-widen Inv-loop μ-loop
 cast-widen c =
@@ -48,10 +46,18 @@ widen-requires c κs =
     let a = start .args in
     let pos = start .pre .0 in
     let l = at-turn (c .before) .before .loop in
-    let more = at-turn (c .before) .loop-test .taken in (
+    let more = at-turn (c .before) .loop-test .taken in
+    let is = sym (c .before .before .member-of .ensures) ∙ c .before .if1 .taken in (
       built-some (a .m) (a .n) (a .g) pos (l .out) (l .len) (l .w) (l .i) (l .inv .1),
       pos,
-      omega (arith, built-room (a .m) (a .n) (a .g) pos (l .out) (l .len) (l .w) (l .i) (l .inv .1) more, length-set (a .out .now) 0 0, l .inv .0, start .pre),
+      omega (
+        arith,
+        built-room (a .m) (a .n) (a .g) pos (l .out) (l .len) (l .w) (l .i) (l .inv .1) more is,
+        length-set
+            (a .out .now) 0 0,
+        l .inv .0,
+        start .pre,
+      ),
       λ k k<.
           omega (
             arith,
@@ -115,8 +121,6 @@ returns c =
 
 pub offsets-spec : {M : Type 1} → statement M
 offsets-spec =
-    tie.close
-    (tie.spec Inv-loop μ-loop slice-write-out loop-holds (λ c. omega arith) (λ c κs. omega arith) cast-widen widen-requires mul-w
-    (λ c. omega (arith, at-turn (at-taken (at-widen c)) .loop-test .taken))
-    (λ c. omega (arith, at-turn (at-taken (at-widen c)) .loop-test .taken)) loop-again mul-w-2 (λ c. omega arith) (λ c. omega arith)
-    loop-again-2 same-length returns)
+    tie.close (tie.spec Inv-loop μ-loop slice-write-out loop-holds (λ c. omega arith) (λ c κs. omega arith) cast-widen widen-requires mul-w
+    (λ c. omega (arith, at-turn (at-taken (at-widen c)) .loop-test .taken)) (λ c. omega (arith, at-turn (at-taken (at-widen c)) .loop-test .taken)) loop-again
+    mul-w-2 (λ c. omega arith) (λ c. omega arith) loop-again-2 same-length returns)

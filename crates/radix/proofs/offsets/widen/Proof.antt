@@ -1,11 +1,7 @@
 -- `radix::offsets::widen` meets its contract. The loop's invariant: the first `j` entries are those of the widened list.
 -- Assumes nothing.
-use Prim.Native.Nat.{ℕ, _≤_, _<_, _*_, _-_, _^_}
-use mathlib.Core.Path.{_≡_, refl, _∙_, subst, subst⁻¹}
-use native.Mathlib.Nat.{mul-le-mul-left, mul-one}
-use native.Mathlib.Omega.{arith}
-use lib.ListN.{length, take, length-set}
-use lib.Seq.{take-all}
+use Rattle.laws.specs.Prelude.{ℕ, _<_, _≤_, _-_, _^_, _*_, _≡_, _∙_, refl, subst, subst⁻¹, mul-one, mul-le-mul-left, arith, length, take, length-set}
+use Rattle.laws.specs.Prelude.{take-all}
 use Rattle.radix.proofs.Widening.{whole, whole-length, starts, entry, turn, small}
 use Rattle.radix.proofs.offsets.widen.Statement.{statement}
 use Rattle.radix.proofs.offsets.widen.Tie as tie
@@ -65,6 +61,5 @@ returns c =
 
 pub widen-spec : {M : Type 1} → statement M
 widen-spec =
-    tie.close
-    (tie.spec Inv-loop μ-loop (λ c. omega arith) loop-holds (λ c. omega arith) (λ c. omega arith) (λ c. omega arith) add-out
-    (λ c. omega arith) (λ c. omega arith) (λ c. omega arith) (λ c. omega arith) loop-again (λ c. c .before .loop .inv .3) returns)
+    tie.close (tie.spec Inv-loop μ-loop (λ c. omega arith) loop-holds (λ c. omega arith) (λ c. omega arith) (λ c. omega arith) add-out (λ c. omega arith)
+    (λ c. omega arith) (λ c. omega arith) (λ c. omega arith) loop-again (λ c. c .before .loop .inv .3) returns)

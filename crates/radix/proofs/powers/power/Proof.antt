@@ -1,10 +1,6 @@
 -- `radix::powers::power` meets its contract. The loop's invariant: `p` is m to the power `i`. Assumes nothing.
-use mathlib.Core.Path.{_≡_, sym, ap, _∙_, subst⁻¹}
-use Prim.Native.Nat.{ℕ, _≤_, _<_, _+_, _-_, _*_, _^_}
-use native.Mathlib.Nat.{pow-zero, pow-suc, pow-le-pow-left, pow-le-pow-right, le-trans, zero-lt-suc, lt-of-le-of-lt}
-use native.Mathlib.Numerals.{add-one}
-use native.Mathlib.Omega.{arith}
-use lib.Dec.{lit<}
+use Rattle.laws.specs.Prelude.{ℕ, _<_, _≤_, _+_, _-_, _^_, _*_, _≡_, _∙_, sym, ap, subst⁻¹, pow-suc, le-trans, pow-zero, pow-le-pow-right, lt-of-le-of-lt}
+use Rattle.laws.specs.Prelude.{pow-le-pow-left, zero-lt-suc, add-one, arith, lit<}
 use Rattle.rules.specs.Limits.{mostLevels}
 use Rattle.radix.specs.Widths.{mostMembers}
 use Rattle.radix.proofs.powers.power.Statement.{statement}

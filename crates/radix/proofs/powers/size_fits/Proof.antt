@@ -1,6 +1,5 @@
 -- `radix::powers::size_fits` meets its contract: each test decides one part of `sizeFits`. Assumes nothing.
-use borrow.Author.Needs.{needs}
-use borrow.Author.Tests.{le-leb, lt-leb}
+use Rattle.laws.specs.Prelude.{le-leb, lt-leb, needs}
 use Rattle.rules.specs.Limits.{levelsFit, inputsFit, cellsFit, sizeFits}
 use Rattle.radix.proofs.powers.size_fits.Statement.{statement}
 use Rattle.radix.proofs.powers.size_fits.Tie as tie

@@ -1,13 +1,7 @@
 -- `radix::powers::weights` meets its contract. The loop's invariant: the inputs from `i` on have their weights, and `w` is the next. Assumes
 -- nothing.
-use Prim.Native.Nat.{ℕ, suc, _-_, _*_, _^_, _≤_, _<_}
-use mathlib.Core.Path.{_≡_, refl, sym, ap, _∙_, subst⁻¹}
-use mathlib.Core.List.{List}
-use native.Mathlib.Nat.{pow-zero, pow-suc, pow-le-pow-right}
-use native.Mathlib.Decide.{ℕ-discrete}
-use native.Mathlib.Omega.{arith}
-use lib.ListN.{length, getD, set, length-set}
-use lib.Seq.{getD-set-same, getD-set-other}
+use Rattle.laws.specs.Prelude.{ℕ, _<_, _≤_, _-_, _^_, suc, _*_, _≡_, _∙_, sym, ap, refl, subst⁻¹, List, pow-suc, pow-zero, pow-le-pow-right, ℕ-discrete}
+use Rattle.laws.specs.Prelude.{arith, length, getD, set, length-set, getD-set-same, getD-set-other}
 use Rattle.radix.proofs.powers.weights.Statement.{statement}
 use Rattle.radix.proofs.powers.weights.Tie as tie
 
@@ -73,6 +67,5 @@ returns c = λ i i<. c .before .loop .inv .3 i (omega arith) i<
 
 pub weights-spec : {M : Type 1} → statement M
 weights-spec =
-    tie.close
-    (tie.spec Inv-loop μ-loop loop-holds cast-out (λ c. omega arith) (λ c. omega arith) (λ c. omega arith) mul-w (λ c. omega arith)
+    tie.close (tie.spec Inv-loop μ-loop loop-holds cast-out (λ c. omega arith) (λ c. omega arith) (λ c. omega arith) mul-w (λ c. omega arith)
     (λ c. omega arith) loop-again (λ c. c .before .loop .inv .1) returns)

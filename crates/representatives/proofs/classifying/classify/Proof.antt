@@ -1,11 +1,8 @@
 -- `representatives::classifying::classify` meets its contract: too many classes, with witness columns, or few, which are recorded. Assumes nothing.
-use Prim.Native.Nat.{_<_}
-use native.Mathlib.Omega.{arith}
-use lib.ListN.{length}
-use lib.Pow.{pow-mono, pow-pos}
+use Rattle.laws.specs.Prelude.{_<_, arith, length, pow-mono, pow-pos}
 use Rattle.representatives.specs.Columns.{columnsOf}
 use Rattle.representatives.specs.Shifts.{shifted}
-use Rattle.representatives.specs.Counting.{counting-fits, counting-told, counting-many, counting-cover, judged-many, judged-few}
+use Rattle.representatives.specs.Counting.{counting-fits, counting-told, counting-many, counting-cover, counting-exact, judged-many, judged-few}
 use Rattle.representatives.proofs.classifying.classify.Statement.{statement}
 use Rattle.representatives.proofs.classifying.classify.Tie as tie
 
@@ -28,7 +25,8 @@ row-firsts-requires : tie.Need-row-firsts-requires
 row-firsts-requires c κs =
     let start = c .before .before .before .before .before .before in
     let pre = start .pre in
-    counting-fits (some-level start) (pre .group) (start .args .xs .now) (columnsOf (start .args .run) (start .args .ys .now)) (pre .rows) (pre .columns) _ _ (pre .for-cells) (pre .for-firsts)
+    counting-fits (some-level start) (pre .group) (start .args .xs .now) (columnsOf (start .args .run) (start .args .ys .now)) (pre .rows) (pre .columns) _ _
+    (pre .for-cells) (pre .for-firsts)
 
 sub-others : tie.Need-sub-others
 sub-others c = let start = at-start (at-count (c .before)) in omega (arith, shifted (start .args .n) (start .pre .inputs), pow-pos (start .args .n))
@@ -41,7 +39,8 @@ agreeing-in-all-requires c κs =
     let count = at-count (c .before .before) in
     let start = at-start count in
     let pre = start .pre in (
-      counting-told (some-level start) (pre .group) (start .args .xs .now) (columnsOf (start .args .run) (start .args .ys .now)) (pre .rows) (pre .columns) (firsts-room count) (count .row-firsts .ensures) (c .before .if1 .taken) (pre .inputs) _ (pre .for-cells),
+      counting-told (some-level start) (pre .group) (start .args .xs .now) (columnsOf (start .args .run) (start .args .ys .now)) (pre .rows) (pre .columns)
+          (firsts-room count) (count .row-firsts .ensures) (c .before .if1 .taken) (pre .inputs) _ (pre .for-cells),
       omega (arith, shifted (start .args .n) (pre .inputs), pow-pos (start .args .n), pow-mono (pre .inputs)),
     )
 
@@ -64,14 +63,16 @@ returns c =
     let start = at-start count in
     let pre = start .pre in
     judged-many (pre .levels) (pre .group) (pre .some) (pre .for-kept)
-    (counting-many (some-level start) (pre .group) (start .args .xs .now) (columnsOf (start .args .run) (start .args .ys .now)) (pre .rows) (pre .columns) (firsts-room count) (count .row-firsts .ensures) (told .before .before .if1 .taken) (told .agreeing-in-all .ensures))
+    (counting-many (some-level start) (pre .group) (start .args .xs .now) (columnsOf (start .args .run) (start .args .ys .now)) (pre .rows) (pre .columns)
+    (firsts-room count) (count .row-firsts .ensures) (told .before .before .if1 .taken) (told .agreeing-in-all .ensures))
     (c .before .before .put-many .ensures)
 
 mul-copy : tie.Need-mul-copy
 mul-copy c = omega (arith, at-start (at-count (c .before .before .before)) .pre .for-kept)
 
 copy-requires : tie.Need-copy-requires
-copy-requires c κs = let count = at-count (c .before .before .before) in omega (arith, firsts-room count, at-start count .pre .for-kept, c .before .before .if1 .left)
+copy-requires c κs =
+    let count = at-count (c .before .before .before) in omega (arith, firsts-room count, at-start count .pre .for-kept, c .before .before .if1 .left)
 
 same-length-4 : tie.Need-same-length-4
 same-length-4 c = at-count (c .before .before .before .before .before .before) .row-firsts .kept .1 .1 .1 .1 .1 .0
@@ -83,13 +84,17 @@ returns-2 c =
     let count = at-count (few .before) in
     let start = at-start count in
     let pre = start .pre in
+    let columns = columnsOf (start .args .run) (start .args .ys .now) in
     judged-few (pre .levels) (pre .group) (pre .some) (pre .for-kept) (few .if1 .left)
-    (counting-cover (some-level start) (pre .group) (start .args .xs .now) (columnsOf (start .args .run) (start .args .ys .now)) (pre .rows) (pre .columns) (firsts-room count) (count .row-firsts .ensures) (few .if1 .left)) (copied .copy .ensures)
+    (counting-exact (some-level start) (pre .group) (start .args .xs .now) columns (pre .rows) (pre .columns) (firsts-room count) (count .row-firsts .ensures)
+    (few .if1 .left))
+    (counting-cover (some-level start) (pre .group) (start .args .xs .now) columns (pre .rows) (pre .columns) (firsts-room count) (count .row-firsts .ensures)
+    (few .if1 .left))
+    (copied .copy .ensures)
 
 pub classify-spec : {M : Type 1} → statement M
 classify-spec =
-    tie.close
-    (tie.spec row-firsts-requires (λ c. omega (arith, at-start (at-count (c .before)) .pre .inputs)) sub-others sub-others-2
+    tie.close (tie.spec row-firsts-requires (λ c. omega (arith, at-start (at-count (c .before)) .pre .inputs)) sub-others sub-others-2
     agreeing-in-all-requires mul-put-many (λ c. omega (arith, c .before .agreeing-in-all .ensures .low)) cast-put-many-2 put-many-requires
-    (λ c. c .before .before .put-many .kept .0) same-length-2 returns mul-copy copy-requires (λ c. c .before .before .copy .kept .1 .1 .0)
-    same-length-4 returns-2)
+    (λ c. c .before .before .put-many .kept .0) same-length-2 returns mul-copy copy-requires (λ c. c .before .before .copy .kept .1 .1 .0) same-length-4
+    returns-2)

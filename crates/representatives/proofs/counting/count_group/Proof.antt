@@ -1,9 +1,5 @@
 -- `representatives::counting::count_group` meets its contract: rows from a group inside it, columns from a group of other inputs. Assumes nothing.
-use Prim.Native.Nat.{_-_, _^_, _<_}
-use mathlib.Core.Path.{_≡_}
-use mathlib.Core.Bool.{true}
-use native.Mathlib.Omega.{arith}
-use lib.ListN.{getD}
+use Rattle.laws.specs.Prelude.{_<_, _-_, _^_, _≡_, true, arith, getD, needs}
 use Rattle.rules.specs.Groups.Marks.{inside}
 use Rattle.rules.specs.Calls.Answers.{inkIn}
 use Rattle.rules.specs.Nets.Trees.{Apart}
@@ -11,7 +7,6 @@ use Rattle.radix.specs.Parts.{part-inside, part-apart}
 use Rattle.representatives.specs.Counting.{front-listed}
 use Rattle.representatives.specs.Working.{step-level, step-own-places, step-covering, step-cover, step-before-counted, step-run, step-columns}
 use Rattle.representatives.specs.Working.{step-columns-listed, step-judged}
-use borrow.Author.Needs.{needs}
 use Rattle.representatives.proofs.counting.count_group.Statement.{statement}
 use Rattle.representatives.proofs.counting.count_group.Tie as tie
 
@@ -58,7 +53,8 @@ cover-requires-2 c κs =
 run-of : (c : tie.After-first-of) →
     let start = cover-start (c .before .before .before) in
     let a = start .args in
-    (0 < c .first-of .result) × (c .first-of .result - 1 < a .n) × (getD (a .weights .now) (c .first-of .result - 1) 0 ≡ a .m ^ (a .n - start .pre .1 .near .end))
+    (0 < c .first-of .result) × (c .first-of .result - 1 < a .n)
+    × (getD (a .weights .now) (c .first-of .result - 1) 0 ≡ a .m ^ (a .n - start .pre .1 .near .end))
 run-of c = let pre = cover-start (c .before .before .before) .pre in step-run (pre .0) (pre .1) (pre .2) (c .first-of .ensures)
 
 mul-run : tie.Need-mul-run
@@ -88,8 +84,10 @@ classify-requires c κs =
       for-kept = step-own-places (pre .0) (pre .1);
       for-firsts = pre .0 .for-firsts;
       rows = front-listed (a .m) (a .n) (step-level (pre .0) (pre .1)) (inkIn (a .cells .now)) (a .g) _ (rows .cover .result) (rows .cover .ensures .inside-out)
-          (rows .cover .ensures .cover (inkIn (a .cells .now)) (step-cover (pre .0) (pre .1) (pre .3) (is-free start) (pre .5) (is-part start) (omega arith) (pre .1 .group)));
-      columns = step-columns-listed (pre .0) (pre .1) (pre .2) (few .before .before .without .ensures) (few .few-inside .ensures .0) (few .few-inside .ensures .1)
+          (rows .cover .ensures .cover (inkIn (a .cells .now)) (step-cover (pre .0) (pre .1) (pre .3) (is-free start) (pre .5) (is-part start) (omega arith)
+          (pre .1 .group)));
+      columns =
+          step-columns-listed (pre .0) (pre .1) (pre .2) (few .before .before .without .ensures) (few .few-inside .ensures .0) (few .few-inside .ensures .1)
           (run-of (at-first (c .before .before .before)) .2) (columns .cover2 .ensures);
     }
 
@@ -102,8 +100,7 @@ returns c =
 
 pub count-group-spec : {M : Type 1} → statement M
 count-group-spec =
-    tie.close
-    (tie.spec cover-requires (λ c. search needs) (λ c. search needs) (λ c κs. search needs) few-inside-requires cover-requires-2
-    (λ c κs. omega (arith, cover-start (c .before .before) .pre .1 .above)) (λ c. run-of c .0) mul-run shared-slice-read-run cast-run
-    (λ c. search needs) (λ c. search needs) (λ c. search needs) (λ c. search needs) (λ c. search needs) (λ c. search needs)
-    classify-requires (λ c. search needs) (λ c. search needs) (λ c. search needs) (λ c. search needs) returns)
+    tie.close (tie.spec cover-requires (λ c. search needs) (λ c. search needs) (λ c κs. search needs) few-inside-requires cover-requires-2
+    (λ c κs. omega (arith, cover-start (c .before .before) .pre .1 .above)) (λ c. run-of c .0) mul-run shared-slice-read-run cast-run (λ c. search needs)
+    (λ c. search needs) (λ c. search needs) (λ c. search needs) (λ c. search needs) (λ c. search needs) classify-requires (λ c. search needs)
+    (λ c. search needs) (λ c. search needs) (λ c. search needs) returns)

@@ -1,6 +1,5 @@
-use native.Mathlib.Omega.{arith}
+use Rattle.laws.specs.Prelude.{arith, needs}
 use Rattle.representatives.specs.Extension.{covering-room, covering-spreading, covering-covered}
-use borrow.Author.Needs.{needs}
 use Rattle.representatives.proofs.extension.cover.Statement.{statement}
 use Rattle.representatives.proofs.extension.cover.Tie as tie
 use Rattle.representatives.proofs.extension.cover.Reads as reads
@@ -24,9 +23,9 @@ returns : tie.Need-returns
 returns c =
     let spread = c .before .before in
     let copy = at-copy (spread .before) in
-    covering-covered (at-start (copy .before .before) .pre) (copy .copy .ensures) (copy .copy .kept .1 .1 .0) (spread .spread .ensures) (spread .spread .kept .1 .1 .1 .1 .1 .0)
+    covering-covered (at-start (copy .before .before) .pre) (copy .copy .ensures) (copy .copy .kept .1 .1 .0) (spread .spread .ensures)
+    (spread .spread .kept .1 .1 .1 .1 .1 .0)
 
 pub cover-spec : {M : Type 1} → statement M
 cover-spec =
-    tie.close
-    (tie.spec (λ c. search needs) (λ c. search needs) (λ c. search needs) copy-requires spread-requires (λ c. search needs) returns)
+    tie.close (tie.spec (λ c. search needs) (λ c. search needs) (λ c. search needs) copy-requires spread-requires (λ c. search needs) returns)

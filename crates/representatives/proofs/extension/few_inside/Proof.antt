@@ -1,7 +1,5 @@
-use Prim.Native.Nat.{_+_, _*_}
-use native.Mathlib.Omega.{arith}
+use Rattle.laws.specs.Prelude.{_+_, _*_, arith, needs}
 use lib.Bits.{and-self}
-use borrow.Author.Needs.{needs}
 use Rattle.representatives.proofs.extension.few_inside.Statement.{statement}
 use Rattle.representatives.proofs.extension.few_inside.Tie as tie
 use Rattle.representatives.proofs.extension.few_inside.Reads as reads
@@ -18,6 +16,4 @@ returns-2 c = (and-self (c .before .before .args .h), omega arith)
 
 pub few-inside-spec : {M : Type 1} → statement M
 few-inside-spec =
-    tie.close
-    (tie.spec (λ c. search needs) (λ c. search needs) (λ c. search needs) (λ c. search needs) (λ c. search needs) cast-result returns
-    returns-2)
+    tie.close (tie.spec (λ c. search needs) (λ c. search needs) (λ c. search needs) (λ c. search needs) (λ c. search needs) cast-result returns returns-2)

@@ -1,9 +1,6 @@
 -- `representatives::extension::spread` meets its contract. Loop invariant: the assignments so far cover the group without the remaining members.
 -- Assumes nothing.
-use Prim.Native.Nat.{_-_, _^_}
-use mathlib.Core.Path.{_≡_}
-use native.Mathlib.Omega.{arith}
-use lib.Pow.{pow-pos}
+use Rattle.laws.specs.Prelude.{_-_, _^_, _≡_, arith, pow-pos}
 use Rattle.rules.specs.Nets.Wirings.{firstInput}
 use Rattle.representatives.proofs.Spreading.{Spreads, spreads-none, spreads-all, spreads-group, spreads-input, spreads-room, spreads-small, spreads-next}
 use Rattle.representatives.proofs.extension.spread.Statement.{statement}
@@ -33,7 +30,11 @@ is-first : (c : tie.After-first-of Inv-loop μ-loop) → c .first-of .result ≡
 is-first c = c .first-of .ensures (at-start (c .before .before) .args .n) (spreads-group (at-start (c .before .before) .pre) (c .before .before .loop .inv))
 
 mul-widen : tie.Need-mul-widen Inv-loop μ-loop
-mul-widen c = omega (arith, spreads-input (at-start (c .before .before .before) .pre) (c .before .before .before .loop .inv) (c .before .before .loop-test .taken) (is-first (c .before)))
+mul-widen c = omega (
+  arith,
+  spreads-input (at-start (c .before .before .before) .pre) (c .before .before .before .loop .inv)
+      (c .before .before .loop-test .taken) (is-first (c .before)),
+)
 
 shared-slice-read-widen : tie.Need-shared-slice-read-widen Inv-loop μ-loop
 shared-slice-read-widen c =
@@ -68,14 +69,14 @@ loop-again : tie.Need-loop-again Inv-loop μ-loop
 loop-again c =
     let widen = at-widen (c .before) in
     let turn = at-first (widen .before) .before in
-    spreads-next (at-start (turn .before) .pre) (turn .before .loop .inv) (turn .loop-test .taken) (is-first (at-first (widen .before))) (widen .widen .ensures .0) (widen .widen .ensures .1) (widen .widen .kept .0) (is-rest c)
+    spreads-next (at-start (turn .before) .pre) (turn .before .loop .inv) (turn .loop-test .taken) (is-first (at-first (widen .before)))
+    (widen .widen .ensures .0) (widen .widen .ensures .1) (widen .widen .kept .0) (is-rest c)
 
 returns : tie.Need-returns Inv-loop μ-loop
 returns c = spreads-all (at-start (c .before) .pre) (c .before .loop .inv) (c .loop-test .left)
 
 pub spread-spec : {M : Type 1} → statement M
 spread-spec =
-    tie.close
-    (tie.spec Inv-loop μ-loop (λ c. omega (arith, c .before .before .pre .part-le)) loop-holds (λ c κs. c .loop-test .taken) mul-widen
+    tie.close (tie.spec Inv-loop μ-loop (λ c. omega (arith, c .before .before .pre .part-le)) loop-holds (λ c κs. c .loop-test .taken) mul-widen
     shared-slice-read-widen widen-requires (λ c κs. at-first (at-widen c .before) .before .loop-test .taken) loop-less loop-again
     (λ c. c .before .loop .inv .same) returns)

@@ -1,12 +1,8 @@
 -- `representatives::first_rows::alike_by` meets its contract: if a column distinguishes two rows, they are not alike. Assumes nothing.
-use Prim.Native.Nat.{_+_, _<_}
-use mathlib.Core.Path.{sym, subst}
-use native.Mathlib.Omega.{arith}
-use lib.ListN.{length}
+use Rattle.laws.specs.Prelude.{_<_, _+_, sym, subst, arith, length, needs}
 use Rattle.rules.specs.Calls.Answers.{inkIn}
 use Rattle.representatives.specs.Columns.{columnsOf, ApartBy, column-within}
 use Rattle.representatives.specs.Apart.{unlike-at}
-use borrow.Author.Needs.{needs}
 use Rattle.representatives.proofs.first_rows.alike_by.Statement.{statement}
 use Rattle.representatives.proofs.first_rows.alike_by.Tie as tie
 
@@ -36,7 +32,8 @@ enum-told c = search needs
 returns-2 : tie.Need-returns-2
 returns-2 c =
     let a = c .before .before .before .before .before .before .before .before .args in
-    sym (subst (ApartBy (inkIn (a .cells .now)) (columnsOf (a .run) (a .heads .now)) (a .p) (a .q)) (c .enum-told .given .1) (c .before .before .column-apart .ensures))
+    sym (subst (ApartBy (inkIn (a .cells .now)) (columnsOf (a .run) (a .heads .now)) (a .p) (a .q)) (c .enum-told .given .1)
+    (c .before .before .column-apart .ensures))
 
 returns-3 : tie.Need-returns-3
 returns-3 c =

@@ -1,10 +1,6 @@
 -- `representatives::first_rows::class_of` meets its contract. The loop's invariant: none of the first j is alike. Assumes nothing.
-use Prim.Native.Nat.{ℕ, _-_, _≤_, _<_}
-use mathlib.Core.Path.{_≡_, sym, _∙_}
-use mathlib.Core.Bool.{false}
-use native.Mathlib.Omega.{arith}
+use Rattle.laws.specs.Prelude.{ℕ, _<_, _≤_, _-_, _≡_, _∙_, sym, false, arith, getD}
 use borrow.Author.Count.{below-more}
-use lib.ListN.{getD}
 use Rattle.rules.specs.Calls.Answers.{inkIn}
 use Rattle.rules.specs.Groups.Groups.{alikeOver}
 use Rattle.classes.specs.Firsts.{search-is}
@@ -26,7 +22,8 @@ abbrev at-head : tie.After-alike-by Inv-loop μ-loop → tie.At-loop Inv-loop μ
 at-head c = c .before .before .before
 
 alike-by-requires : tie.Need-alike-by-requires Inv-loop μ-loop
-alike-by-requires c κs = let head = c .before .before in let pre = at-start head .pre in (pre .0, pre .1, pre .3, pre .4 (head .loop .j) (c .before .loop-test .taken))
+alike-by-requires c κs =
+    let head = c .before .before in let pre = at-start head .pre in (pre .0, pre .1, pre .3, pre .4 (head .loop .j) (c .before .loop-test .taken))
 
 returns : tie.Need-returns Inv-loop μ-loop
 returns c =

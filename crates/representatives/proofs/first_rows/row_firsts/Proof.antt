@@ -1,10 +1,6 @@
 -- `representatives::first_rows::row_firsts` meets its contract. The loop's invariant: what is kept and the remaining rows give the classes of all.
 -- Assumes nothing.
-use Prim.Native.Nat.{_+_, _-_, _≤_, _<_}
-use mathlib.Core.Path.{_≡_, refl, _∙_, subst}
-use native.Mathlib.Nat.{add-zero}
-use native.Mathlib.Omega.{arith}
-use lib.ListN.{length, length-set}
+use Rattle.laws.specs.Prelude.{_<_, _≤_, _+_, _-_, _≡_, _∙_, refl, subst, add-zero, arith, length, length-set}
 use Rattle.rules.specs.Calls.Answers.{inkIn}
 use Rattle.representatives.specs.Columns.{columnsOf, Column, columns-some, column-there}
 use Rattle.classes.specs.Counting.{FirstsFound, firsts-found-one, kept-all, kept-enough, kept-known, kept-new}
@@ -12,7 +8,9 @@ use Rattle.representatives.proofs.first_rows.row_firsts.Statement.{stat
 use Rattle.representatives.proofs.first_rows.row_firsts.Tie as tie
 
 abbrev Inv-loop : tie.InvT-loop
-Inv-loop cells xs heads run m firsts₀ count₀ hint₀ i₀ firsts count hint i = (length firsts ≡ length firsts₀) × (0 < count) × Column (columnsOf run heads) hint × FirstsFound (inkIn cells) (length cells) (columnsOf run heads) xs (m + 1) firsts count i × (count ≤ m)
+Inv-loop cells xs heads run m firsts₀ count₀ hint₀ i₀ firsts count hint i =
+    (length firsts ≡ length firsts₀) × (0 < count) × Column (columnsOf run heads) hint
+    × FirstsFound (inkIn cells) (length cells) (columnsOf run heads) xs (m + 1) firsts count i × (count ≤ m)
 
 abbrev μ-loop : tie.MeasureT-loop
 μ-loop cells xs heads run m firsts₀ count₀ hint₀ i₀ firsts count hint i = length xs - i
@@ -36,7 +34,8 @@ loop-holds c =
       refl,
       omega arith,
       subst (Column (columnsOf (a .run) (a .heads .now))) (add-zero _) (column-there (a .run) (a .heads .now) 0 0 (some .0) (some .1)),
-      firsts-found-one (inkIn (a .cells .now)) (length (a .cells .now)) (columnsOf (a .run) (a .heads .now)) (a .xs .now) (a .m + 1) (a .firsts .now) (omega arith)
+      firsts-found-one (inkIn (a .cells .now)) (length (a .cells .now)) (columnsOf (a .run) (a .heads .now)) (a .xs .now) (a .m + 1) (a .firsts .now)
+          (omega arith)
           (omega (arith, start .pre .room)) (start .pre .rows) (start .pre .within 0 (start .pre .rows)),
       start .pre .levels,
     )
@@ -47,8 +46,14 @@ cast-class-of c = omega (arith, c .before .shared-slice-known6 .given (c .before
 class-of-requires : tie.Need-class-of-requires Inv-loop μ-loop
 class-of-requires c κs =
     let turn = c .before .before in
-    let l = turn .before .loop in
-    (heads-some (at-start (turn .before)) .1, l .inv .2, omega (arith, l .inv .3 .few, l .inv .3 .room), at-start (turn .before) .pre .within (l .i) (turn .loop-test .taken), l .inv .3 .inside)
+    let l = turn .before .loop in (
+      heads-some (at-start (turn .before)) .1,
+      l .inv .2,
+      omega (arith, l .inv .3 .few, l .inv .3 .room),
+      at-start (turn .before) .pre .within
+          (l .i) (turn .loop-test .taken),
+      l .inv .3 .inside,
+    )
 
 loop-again : tie.Need-loop-again Inv-loop μ-loop
 loop-again c =
@@ -85,8 +90,12 @@ cast-place-apart-2 c =
 place-apart-requires : tie.Need-place-apart-requires Inv-loop μ-loop
 place-apart-requires c κs =
     let turn = at-turn (c .before .before .before) in
-    let l = turn .before .loop in
-    (heads-some (at-start (turn .before)) .1, l .inv .2, at-start (turn .before) .pre .within (l .i) (turn .loop-test .taken), l .inv .3 .inside (l .count - 1) (omega (arith, l .inv .1)))
+    let l = turn .before .loop in (
+      heads-some (at-start (turn .before)) .1,
+      l .inv .2,
+      at-start (turn .before) .pre .within (l .i) (turn .loop-test .taken),
+      l .inv .3 .inside (l .count - 1) (omega (arith, l .inv .1)),
+    )
 
 loop-less-2 : tie.Need-loop-less-2 Inv-loop μ-loop
 loop-less-2 c = omega (arith, at-turn (c .before .before .before .before) .loop-test .taken)
@@ -110,9 +119,8 @@ returns-2 c = kept-all (c .before .loop .inv .3) (c .loop-test .left)
 
 pub row-firsts-spec : {M : Type 1} → statement M
 row-firsts-spec =
-    tie.close
-    (tie.spec Inv-loop μ-loop (λ c. omega arith) (λ c. omega arith) (λ c. heads-some (c .before .before .before .before .before .before) .0)
-    (λ c. omega (arith, c .shared-slice-known5 .given 0)) loop-holds (λ c. omega arith) (λ c. omega arith) cast-class-of class-of-requires
-    (λ c. omega arith) (λ c. omega arith) loop-again (λ c. omega arith) (λ c. omega arith) (λ c. omega arith) (λ c. omega arith)
-    (λ c. omega arith) (λ c. omega arith) same-length returns cast-place-apart cast-place-apart-2 place-apart-requires (λ c. omega arith)
-    (λ c. omega arith) loop-less-2 loop-again-2 (λ c. as-long (c .before)) returns-2)
+    tie.close (tie.spec Inv-loop μ-loop (λ c. omega arith) (λ c. omega arith) (λ c. heads-some (c .before .before .before .before .before .before) .0)
+    (λ c. omega (arith, c .shared-slice-known5 .given 0)) loop-holds (λ c. omega arith) (λ c. omega arith) cast-class-of class-of-requires (λ c. omega arith)
+    (λ c. omega arith) loop-again (λ c. omega arith) (λ c. omega arith) (λ c. omega arith) (λ c. omega arith) (λ c. omega arith) (λ c. omega arith)
+    same-length returns cast-place-apart cast-place-apart-2 place-apart-requires (λ c. omega arith) (λ c. omega arith) loop-less-2 loop-again-2
+    (λ c. as-long (c .before)) returns-2)

@@ -1,13 +1,9 @@
 -- `representatives::group::keep_group` meets its contract: the empty group, too many classes that pass on, or a count. Assumes nothing.
-use Prim.Native.Nat.{_+_, _-_, _*_, _≤_, _<_}
-use mathlib.Core.Path.{_≡_, subst}
-use native.Mathlib.Omega.{arith}
-use lib.ListN.{length, getD}
+use Rattle.laws.specs.Prelude.{_<_, _≤_, _+_, _-_, _*_, _≡_, subst, arith, length, getD, needs}
 use Rattle.representatives.specs.Known.{Base}
 use Rattle.representatives.specs.Sources.{PassesOn, OneOf}
 use Rattle.representatives.specs.Working.{step-level, step-own-places, step-counted}
 use Rattle.representatives.proofs.GroupSteps.{step-empty, step-off-lower, step-off-apart, step-inner, step-passed}
-use borrow.Author.Needs.{needs}
 use Rattle.representatives.proofs.group.keep_group.Statement.{statement}
 use Rattle.representatives.proofs.group.keep_group.Tie as tie
 
@@ -44,8 +40,12 @@ returns c = let pre = at-start (c .before) .pre in step-empty (pre .0) (pre .1) 
 source-requires : tie.Need-source-requires
 source-requires c κs =
     let start = at-start (c .before .before) in
-    let pre = start .pre in
-    (step-level (pre .0) (pre .1), omega (arith, c .before .if1 .left), omega (arith, pre .1 .group, pre .0 .for-counts), omega (arith, step-own-places (pre .0) (pre .1)))
+    let pre = start .pre in (
+      step-level (pre .0) (pre .1),
+      omega (arith, c .before .if1 .left),
+      omega (arith, pre .1 .group, pre .0 .for-counts),
+      omega (arith, step-own-places (pre .0) (pre .1)),
+    )
 
 passes-on-requires : tie.Need-passes-on-requires
 passes-on-requires c κs = let counted = rest-counted (c .before) in (counted .0, omega (arith, counted .1))
@@ -61,7 +61,8 @@ returns-2 c =
     let put = c .before .before in
     let source = at-source (put .before) in
     let pre = source-start source .pre in
-    step-passed (pre .0) (pre .1) (one source) (subst (PassesOn _ _ _ _ _) (put .before .before .before .before .if2 .taken) (put .before .before .before .before .before .passes-on .ensures)) (put .put-many .ensures)
+    step-passed (pre .0) (pre .1) (one source) (subst (PassesOn _ _ _ _ _) (put .before .before .before .before .if2 .taken)
+    (put .before .before .before .before .before .passes-on .ensures)) (put .put-many .ensures)
 
 count-group-requires : tie.Need-count-group-requires
 count-group-requires c κs =
@@ -74,13 +75,10 @@ count-group-requires c κs =
 
 pub keep-group-spec : {M : Type 1} → statement M
 keep-group-spec =
-    tie.close
-    (tie.spec slice-write-kept (λ c. search needs) returns source-requires (λ c. off c .0) passes-on-requires
+    tie.close (tie.spec slice-write-kept (λ c. search needs) returns source-requires (λ c. off c .0) passes-on-requires
     (λ c. omega (arith, rest-counted (c .before .before .before) .1)) (λ c. omega (arith, rest-counted (c .before .before .before) .1))
-    (λ c. omega (arith, rest-counted (c .before .before .before .before) .1))
-    (λ c. omega (arith, rest-counted (c .before .before .before .before) .1))
-    (λ c. omega (arith, rest-counted (c .before .before .before .before) .1))
-    (λ c. omega (arith, rest-counted (c .before .before .before .before) .1))
+    (λ c. omega (arith, rest-counted (c .before .before .before .before) .1)) (λ c. omega (arith, rest-counted (c .before .before .before .before) .1))
+    (λ c. omega (arith, rest-counted (c .before .before .before .before) .1)) (λ c. omega (arith, rest-counted (c .before .before .before .before) .1))
     (λ c. rest-counted (c .before .before .before .before .before) .1) mul-put-many put-many-requires (λ c. search needs) returns-2
-    (λ c κs. rest-counted (c .before .before .before .before)) count-group-requires (λ c. search needs) (λ c. search needs)
-    (λ c. search needs) (λ c. search needs) (λ c. search needs))
+    (λ c κs. rest-counted (c .before .before .before .before)) count-group-requires (λ c. search needs) (λ c. search needs) (λ c. search needs)
+    (λ c. search needs) (λ c. search needs))

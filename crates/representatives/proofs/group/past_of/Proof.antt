@@ -1,6 +1,5 @@
 -- `representatives::group::past_of` meets its contract: twice the power if it is reached. Assumes nothing.
-use native.Mathlib.Omega.{arith}
-use lib.Pow.{pow-pos}
+use Rattle.laws.specs.Prelude.{arith, pow-pos}
 use Rattle.representatives.specs.Steps.{near-twice}
 use Rattle.representatives.proofs.group.past_of.Statement.{statement}
 use Rattle.representatives.proofs.group.past_of.Tie as tie

@@ -1,11 +1,7 @@
 -- `representatives::rows::column_apart` meets its contract: with a run of one the columns are the heads. Assumes nothing.
-use Prim.Native.Nat.{ℕ}
-use mathlib.Core.List.{List}
-use lib.ListN.{length}
+use Rattle.laws.specs.Prelude.{ℕ, _≡_, _∙_, ap, subst, subst⁻¹, List, length, needs}
 use Rattle.rules.specs.Calls.Answers.{inkIn}
 use Rattle.classes.specs.Within.{Within}
-use mathlib.Core.Path.{_≡_, ap, _∙_, subst, subst⁻¹}
-use borrow.Author.Needs.{needs}
 use Rattle.representatives.specs.Columns.{columnsOf, ApartBy, columns-one}
 use Rattle.representatives.proofs.rows.column_apart.Statement.{statement}
 use Rattle.representatives.proofs.rows.column_apart.Tie as tie
@@ -17,8 +13,10 @@ heads-alone c = let a = c .before .before .before .args in ap (λ (run : ℕ). c
 heads-apart-requires : tie.Need-heads-apart-requires
 heads-apart-requires c κs =
     let start = c .before .before .before in
-    let a = start .args in
-    (subst (λ (l : List ℕ). Within (length (a .cells .now)) l (a .p)) (heads-alone c) (start .pre .1), subst (λ (l : List ℕ). Within (length (a .cells .now)) l (a .q)) (heads-alone c) (start .pre .2))
+    let a = start .args in (
+      subst (λ (l : List ℕ). Within (length (a .cells .now)) l (a .p)) (heads-alone c) (start .pre .1),
+      subst (λ (l : List ℕ). Within (length (a .cells .now)) l (a .q)) (heads-alone c) (start .pre .2),
+    )
 
 returns : tie.Need-returns
 returns c =

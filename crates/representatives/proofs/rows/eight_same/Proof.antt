@@ -1,10 +1,6 @@
 -- `representatives::rows::eight_same` meets its contract. Loop invariant: if none differs so far, all cells so far are the same. Assumes nothing.
-use Prim.Native.Nat.{_-_, _≤_}
-use mathlib.Core.Path.{_≡_}
-use mathlib.Core.Logic.{⊎-elim}
-use native.Mathlib.Omega.{arith}
+use Rattle.laws.specs.Prelude.{_≤_, _-_, _≡_, ⊎-elim, arith, eqb-true}
 use borrow.Author.Count.{below-more}
-use borrow.Author.Tests.{eqb-true}
 use Rattle.rules.specs.Calls.Answers.{inkIn}
 use Rattle.representatives.specs.Runs.{SameRuns}
 use Rattle.representatives.proofs.rows.eight_same.Statement.{statement}
@@ -30,6 +26,5 @@ returns c = λ e j h. c .before .loop .inv .1 (eqb-true _ 0 e) j (omega arith)
 
 pub eight-same-spec : {M : Type 1} → statement M
 eight-same-spec =
-    tie.close
-    (tie.spec Inv-loop μ-loop loop-holds (λ c. omega arith) (λ c. omega arith) (λ c. omega arith) (λ c. omega arith) (λ c. omega arith)
+    tie.close (tie.spec Inv-loop μ-loop loop-holds (λ c. omega arith) (λ c. omega arith) (λ c. omega arith) (λ c. omega arith) (λ c. omega arith)
     (λ c. omega arith) loop-again returns)

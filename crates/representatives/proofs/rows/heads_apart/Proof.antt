@@ -1,10 +1,8 @@
 -- `representatives::rows::heads_apart` meets its contract: the first place that differs is a column. Assumes nothing.
-use mathlib.Core.Path.{refl, sym, ap, _∙_}
-use native.Mathlib.Omega.{arith}
+use Rattle.laws.specs.Prelude.{_∙_, sym, ap, refl, arith, needs}
 use Rattle.rules.specs.Calls.Answers.{inkIn}
 use Rattle.trees.specs.Groups.Differences.{Differ, none-differ, some-first}
 use Rattle.classes.specs.Differences.{differenceAs}
-use borrow.Author.Needs.{needs}
 use Rattle.representatives.proofs.rows.heads_apart.Statement.{statement}
 use Rattle.representatives.proofs.rows.heads_apart.Tie as tie
 
@@ -28,4 +26,5 @@ returns-2 c = ((c .before .before .found .given .0 .0, placed (c .before) .there
 
 pub heads-apart-spec : {M : Type 1} → statement M
 heads-apart-spec =
-    tie.close (tie.spec (λ c κs. search needs) enum-told (λ c. search needs) (λ c. omega (arith, placed c .there)) (λ c. placed (c .before) .there) cast-t11 returns returns-2)
+    tie.close (tie.spec (λ c κs. search needs) enum-told (λ c. search needs) (λ c. omega (arith, placed c .there))
+    (λ c. placed (c .before) .there) cast-t11 returns returns-2)

@@ -1,6 +1,5 @@
 -- `representatives::rows::run_apart` meets its contract. The loop's invariant: the cells so far are the same. Assumes nothing.
-use Prim.Native.Nat.{_-_, _≤_}
-use native.Mathlib.Omega.{arith}
+use Rattle.laws.specs.Prelude.{_≤_, _-_, arith}
 use borrow.Author.Count.{below-more}
 use Rattle.rules.specs.Calls.Answers.{inkIn}
 use Rattle.representatives.specs.Runs.{SameRuns}
@@ -33,6 +32,5 @@ returns-2 c =
 
 pub run-apart-spec : {M : Type 1} → statement M
 run-apart-spec =
-    tie.close
-    (tie.spec Inv-loop μ-loop (λ c κs. omega arith) loop-holds (λ c. omega arith) (λ c. omega arith) (λ c. omega arith) (λ c. omega arith)
-    returns (λ c. omega arith) (λ c. omega arith) loop-again returns-2)
+    tie.close (tie.spec Inv-loop μ-loop (λ c κs. omega arith) loop-holds (λ c. omega arith) (λ c. omega arith) (λ c. omega arith) (λ c. omega arith) returns
+    (λ c. omega arith) (λ c. omega arith) loop-again returns-2)

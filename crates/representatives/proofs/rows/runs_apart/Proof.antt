@@ -1,7 +1,5 @@
 -- `representatives::rows::runs_apart` meets its contract. Loop invariant: the cells are the same in the runs of the heads so far. Assumes nothing.
-use Prim.Native.Nat.{_+_, _-_, _≤_, _<_}
-use native.Mathlib.Omega.{arith}
-use lib.ListN.{length, getD}
+use Rattle.laws.specs.Prelude.{_<_, _≤_, _+_, _-_, arith, length, getD}
 use Rattle.rules.specs.Calls.Answers.{inkIn}
 use Rattle.representatives.specs.Columns.{columnsOf, column-within, column-there, runs-alike, SameHeads, heads-next, run-differs}
 use Rattle.representatives.proofs.rows.runs_apart.Statement.{statement}
@@ -39,7 +37,8 @@ returns : tie.Need-returns Inv-loop μ-loop
 returns c =
     let turn = c .before .before .before in
     let a = at-start (turn .before) .args in
-    run-differs (inkIn (a .cells .now)) (a .run) (a .heads .now) (a .p) (a .q) (turn .before .loop .k) (c .before .run-apart .ensures) (c .if1 .taken) (turn .loop-test .taken)
+    run-differs (inkIn (a .cells .now)) (a .run) (a .heads .now) (a .p) (a .q) (turn .before .loop .k) (c .before .run-apart .ensures) (c .if1 .taken)
+    (turn .loop-test .taken)
 
 loop-again : tie.Need-loop-again Inv-loop μ-loop
 loop-again c =
@@ -51,11 +50,11 @@ loop-again c =
 returns-2 : tie.Need-returns-2 Inv-loop μ-loop
 returns-2 c =
     let a = at-start (c .before) .args in
-    runs-alike (a .run) (a .heads .now) (inkIn (a .cells .now)) (a .p) (a .q) (λ j z j< z<. c .before .loop .inv .1 j z (omega (arith, j<, c .loop-test .left)) z<)
+    runs-alike (a .run) (a .heads .now) (inkIn (a .cells .now)) (a .p) (a .q)
+    (λ j z j< z<. c .before .loop .inv .1 j z (omega (arith, j<, c .loop-test .left)) z<)
 
 pub runs-apart-spec : {M : Type 1} → statement M
 runs-apart-spec =
     tie.close (tie.spec Inv-loop μ-loop loop-holds (λ c. omega arith) (λ c. omega arith) cast-h (λ c. omega (arith, in-cells (c .before)))
-    (λ c. omega (arith, in-cells (c .before))) (λ c κs. in-cells (c .before))
-    (λ c. omega (arith, in-cells (c .before .before .before), c .if1 .taken)) returns (λ c. omega arith) (λ c. omega arith) loop-again
-    returns-2)
+    (λ c. omega (arith, in-cells (c .before))) (λ c κs. in-cells (c .before)) (λ c. omega (arith, in-cells (c .before .before .before), c .if1 .taken))
+    returns (λ c. omega arith) (λ c. omega arith) loop-again returns-2)

@@ -1,7 +1,5 @@
 -- `representatives::rows::same_front` meets its contract. The loop's invariant: the cells so far are the same. Assumes nothing.
-use Prim.Native.Nat.{_-_, _≤_}
-use native.Mathlib.Omega.{arith}
-use borrow.Author.Tests.{not-false}
+use Rattle.laws.specs.Prelude.{_≤_, _-_, arith, not-false}
 use Rattle.rules.specs.Calls.Answers.{inkIn}
 use Rattle.representatives.specs.Runs.{SameRuns, same-further}
 use Rattle.representatives.proofs.rows.same_front.Statement.{statement}
@@ -23,14 +21,16 @@ loop-again : tie.Need-loop-again Inv-loop μ-loop
 loop-again c =
     let same = c .before in
     let head = same .before .before in
-    let a = head .before .before .args in
-    (omega arith, same-further (inkIn (a .cells .now)) (a .a) (a .b) (head .loop .z) 8 (head .loop .inv .1) (same .eight-same .ensures (not-false _ (c .if1 .left))))
+    let a = head .before .before .args in (
+      omega arith,
+      same-further (inkIn (a .cells .now)) (a .a) (a .b) (head .loop .z) 8 (head .loop .inv .1)
+          (same .eight-same .ensures (not-false _ (c .if1 .left))),
+    )
 
 returns-2 : tie.Need-returns-2 Inv-loop μ-loop
 returns-2 c = c .before .loop .inv
 
 pub same-front-spec : {M : Type 1} → statement M
 same-front-spec =
-    tie.close
-    (tie.spec Inv-loop μ-loop loop-holds (λ c. omega (arith, c .loop .inv .0)) (λ c. omega arith) (λ c. omega arith) (λ c κs. omega arith)
-    returns (λ c. omega arith) (λ c. omega arith) loop-again returns-2)
+    tie.close (tie.spec Inv-loop μ-loop loop-holds (λ c. omega (arith, c .loop .inv .0)) (λ c. omega arith) (λ c. omega arith) (λ c κs. omega arith) returns
+    (λ c. omega arith) (λ c. omega arith) loop-again returns-2)

@@ -1,8 +1,4 @@
-use Prim.Native.Nat.{_*_}
-use mathlib.Core.Bool.{false≢true}
-use borrow.Author.Tests.{eqb-false, not-true}
-use native.Mathlib.Omega.{arith}
-use borrow.Author.Needs.{needs}
+use Rattle.laws.specs.Prelude.{_*_, false≢true, arith, eqb-false, not-true, needs}
 use Rattle.representatives.proofs.source.passes_on.Statement.{statement}
 use Rattle.representatives.proofs.source.passes_on.Tie as tie
 use Rattle.representatives.proofs.source.passes_on.Reads as reads

@@ -1,7 +1,6 @@
 -- `representatives::source::source` meets its contract. Loop invariant: the members still to be tried are members of g, and so is the best so far.
 -- Assumes nothing.
-use Prim.Native.Nat.{_-_, _^_, _≤_, _<_}
-use native.Mathlib.Omega.{arith}
+use Rattle.laws.specs.Prelude.{_<_, _≤_, _-_, _^_, arith}
 use Rattle.representatives.specs.Known.{places-before}
 use Rattle.representatives.proofs.Taking.{Takes, takes-none, takes-one, takes-less, takes-next}
 use Rattle.representatives.proofs.source.source.Statement.{statement}
@@ -43,7 +42,8 @@ passes-on-requires c κs =
     (omega (arith, start .pre .2), omega (arith, places-before (start .args .m) (start .args .g - bit) (start .args .g) below, start .pre .0, start .pre .3))
 
 returns : tie.Need-returns Inv-loop μ-loop
-returns c = takes-one (at-off (c .before) .before .before .loop .inv) (at-off (c .before) .before .loop-test .taken) (at-off (c .before) .without-first2 .ensures)
+returns c =
+    takes-one (at-off (c .before) .before .before .loop .inv) (at-off (c .before) .before .loop-test .taken) (at-off (c .before) .without-first2 .ensures)
 
 sub-if2 : tie.Need-sub-if2 Inv-loop μ-loop
 sub-if2 c = omega (arith, less (at-off (c .before)), at-off (c .before) .before .before .loop .inv .low)
@@ -55,7 +55,8 @@ loop-again : tie.Need-loop-again Inv-loop μ-loop
 loop-again c =
     let off = at-off (c .before .before .before) in
     let turn = off .before in
-    takes-next (turn .before .loop .inv) (turn .loop-test .taken) (off .without-first2 .ensures) (fits (turn .before)) _ (takes-one (turn .before .loop .inv) (turn .loop-test .taken) (off .without-first2 .ensures))
+    takes-next (turn .before .loop .inv) (turn .loop-test .taken) (off .without-first2 .ensures) (fits (turn .before)) _
+    (takes-one (turn .before .loop .inv) (turn .loop-test .taken) (off .without-first2 .ensures))
 
 loop-again-2 : tie.Need-loop-again-2 Inv-loop μ-loop
 loop-again-2 c =
@@ -68,8 +69,6 @@ returns-2 c = c .before .loop .inv .is
 
 pub source-spec : {M : Type 1} → statement M
 source-spec =
-    tie.close
-    (tie.spec Inv-loop μ-loop (λ c κs. c .before .before .pre .1) sub-best loop-holds (λ c κs. c .loop-test .taken) (λ c. less c .1)
+    tie.close (tie.spec Inv-loop μ-loop (λ c κs. c .before .before .pre .1) sub-best loop-holds (λ c κs. c .loop-test .taken) (λ c. less c .1)
     (λ c. omega (arith, less c, c .before .before .loop .inv .low)) passes-on-requires returns sub-if2 shared-slice-read-if2
-    (λ c. less (at-off (c .before .before .before)) .2) loop-again (λ c. less (at-off (c .before .before .before)) .2) loop-again-2
-    returns-2)
+    (λ c. less (at-off (c .before .before .before)) .2) loop-again (λ c. less (at-off (c .before .before .before)) .2) loop-again-2 returns-2)

@@ -1,7 +1,4 @@
-use Prim.Native.Nat.{ℕ, _-_, _/_, _<_}
-use mathlib.Core.Path.{ap, subst⁻¹}
-use mathlib.Core.Logic.{⊎-elim}
-use native.Mathlib.Omega.{arith}
+use Rattle.laws.specs.Prelude.{ℕ, _<_, _-_, _/_, ap, subst⁻¹, ⊎-elim, arith}
 use Rattle.radix.specs.Widths.{mostMembers}
 use Rattle.representatives.specs.Shifts.{shifted}
 use Rattle.representatives.proofs.Agreeing.{Agrees, agrees-none, agrees-all, agrees-some, agrees-same, agrees-other, one-of-all}
@@ -37,7 +34,8 @@ loop-again c =
     ⊎-elim
     (λ w. subst⁻¹ (λ (r : ℕ). Agrees (a .m) (a .n) (a .x) (a .y) (a .s) r (l .u / a .m) (l .v / a .m) (l .i - 1)) (w .1)
     (agrees-other (l .inv) some (c .before .before .before .pre .1) (ap (λ (k : ℕ). 65535 - k) (shifted (l .i - 1) (omega (arith, l .inv .low))))))
-    (λ w. subst⁻¹ (λ (r : ℕ). Agrees (a .m) (a .n) (a .x) (a .y) (a .s) r (l .u / a .m) (l .v / a .m) (l .i - 1)) (w .1) (agrees-same (l .inv) some (w .0 .left)))
+    (λ w. subst⁻¹ (λ (r : ℕ). Agrees (a .m) (a .n) (a .x) (a .y) (a .s) r (l .u / a .m) (l .v / a .m) (l .i - 1)) (w .1)
+    (agrees-same (l .inv) some (w .0 .left)))
     (c .if1 .came)
 
 returns : tie.Need-returns Inv-loop μ-loop
@@ -45,6 +43,5 @@ returns c = agrees-all (c .before .loop .inv) (c .loop-test .left)
 
 pub agree-spec : {M : Type 1} → statement M
 agree-spec =
-    tie.close (tie.spec Inv-loop μ-loop loop-holds (λ c. left c) (λ c. omega arith) (λ c. omega arith)
-    (λ c. omega (arith, c .before .before .loop .inv .low)) sub-rest (λ c. omega arith) (λ c. omega arith)
-    (λ c. omega (arith, left (c .before))) loop-again returns)
+    tie.close (tie.spec Inv-loop μ-loop loop-holds (λ c. left c) (λ c. omega arith) (λ c. omega arith) (λ c. omega (arith, c .before .before .loop .inv .low))
+    sub-rest (λ c. omega arith) (λ c. omega arith) (λ c. omega (arith, left (c .before))) loop-again returns)

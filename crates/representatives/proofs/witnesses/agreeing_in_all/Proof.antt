@@ -1,10 +1,6 @@
 -- `representatives::witnesses::agreeing_in_all` meets its contract. The loop's invariant: columns distinguish each row after row `k` from all rows
 -- before it. Assumes nothing.
-use Prim.Native.Nat.{_-_, _<_}
-use mathlib.Core.Path.{subst}
-use native.Mathlib.Nat.{add-zero}
-use lib.ListN.{length}
-use native.Mathlib.Omega.{arith}
+use Rattle.laws.specs.Prelude.{_<_, _-_, subst, add-zero, arith, length}
 use Rattle.rules.specs.Calls.Answers.{inkIn}
 use Rattle.representatives.specs.Columns.{columnsOf, columns-some, column-there, Column}
 use Rattle.representatives.specs.Witnesses.{ToldFrom, from-next, from-all}
@@ -85,8 +81,7 @@ returns c = from-all (c .loop-test .left) (c .before .before .place-apart .ensur
 
 pub agreeing-in-all-spec : {M : Type 1} → statement M
 agreeing-in-all-spec =
-    tie.close (tie.spec Inv-loop μ-loop (λ c. omega arith) (λ c. omega arith) cast-place-apart (λ c. omega arith) (λ c. omega arith)
-    (λ c. omega arith) cast-place-apart-2 (λ c. heads-some (at-start (c .before .before .before)) .0)
-    (λ c. omega (arith, c .shared-slice-known6 .given 0)) place-apart-requires loop-holds mul-agreeing-in-row
-    shared-slice-read-agreeing-in-row cast-agreeing-in-row agreeing-in-row-requires (λ c. omega arith) (λ c. omega arith) loop-again
-    returns)
+    tie.close (tie.spec Inv-loop μ-loop (λ c. omega arith) (λ c. omega arith) cast-place-apart (λ c. omega arith) (λ c. omega arith) (λ c. omega arith)
+    cast-place-apart-2 (λ c. heads-some (at-start (c .before .before .before)) .0) (λ c. omega (arith, c .shared-slice-known6 .given 0)) place-apart-requires
+    loop-holds mul-agreeing-in-row shared-slice-read-agreeing-in-row cast-agreeing-in-row agreeing-in-row-requires (λ c. omega arith) (λ c. omega arith)
+    loop-again returns)

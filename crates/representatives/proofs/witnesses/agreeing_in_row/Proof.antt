@@ -1,7 +1,5 @@
 -- `representatives::witnesses::agreeing_in_row` meets its contract. Loop invariant: columns distinguish the row from the first `j`. Assumes nothing.
-use Prim.Native.Nat.{ℕ, _-_, _≤_}
-use mathlib.Core.Path.{_≡_, subst}
-use native.Mathlib.Omega.{arith}
+use Rattle.laws.specs.Prelude.{ℕ, _≤_, _-_, _≡_, subst, arith}
 use Rattle.rules.specs.Calls.Answers.{inkIn}
 use Rattle.representatives.specs.Columns.{columnsOf}
 use Rattle.representatives.specs.Witnesses.{ToldRow, row-none, row-next}
@@ -38,10 +36,10 @@ returns c =
     let a = at-start (c .before) .args in
     let l = c .before .loop in
     let all : l .j ≡ a .count = omega arith in
-    subst (λ (k : ℕ). ToldRow (a .m) (a .n) (inkIn (a .cells .now)) (columnsOf (a .run) (a .heads .now)) (a .base) (a .p) (a .firsts .now) k (a .s) (l .rest)) all (l .inv .1)
+    subst (λ (k : ℕ). ToldRow (a .m) (a .n) (inkIn (a .cells .now)) (columnsOf (a .run) (a .heads .now)) (a .base) (a .p) (a .firsts .now) k (a .s) (l .rest))
+    all (l .inv .1)
 
 pub agreeing-in-row-spec : {M : Type 1} → statement M
 agreeing-in-row-spec =
-    tie.close
-    (tie.spec Inv-loop μ-loop loop-holds (λ c. omega arith) (λ c. omega arith) cast-agreeing-inputs agreeing-inputs-requires
-    (λ c. omega arith) (λ c. omega arith) loop-again returns)
+    tie.close (tie.spec Inv-loop μ-loop loop-holds (λ c. omega arith) (λ c. omega arith) cast-agreeing-inputs agreeing-inputs-requires (λ c. omega arith)
+    (λ c. omega arith) loop-again returns)

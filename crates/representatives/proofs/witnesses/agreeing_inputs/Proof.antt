@@ -1,8 +1,6 @@
 -- `representatives::witnesses::agreeing_inputs` meets its contract: with no inputs any column will do; the column `base` distinguishes the two rows,
 -- or the first that does is compared with it. Assumes nothing.
-use Prim.Native.Nat.{_+_, _<_}
-use native.Mathlib.Omega.{arith}
-use lib.ListN.{length}
+use Rattle.laws.specs.Prelude.{_<_, _+_, arith, length}
 use Rattle.representatives.specs.Columns.{columnsOf, column-within}
 use Rattle.representatives.specs.Witnesses.{told-any, told-here, told-there}
 use Rattle.representatives.proofs.witnesses.agreeing_inputs.Statement.{statement}
@@ -41,7 +39,6 @@ returns-3 c =
 
 pub agreeing-inputs-spec : {M : Type 1} → statement M
 agreeing-inputs-spec =
-    tie.close
-    (tie.spec returns (λ c. omega (arith, in-cells (c .before .before .before))) (λ c. in-cells (c .before .before .before .before) .0)
-    (λ c. omega (arith, in-cells (c .before .before .before .before))) (λ c. in-cells (c .before .before .before .before .before) .1)
-    returns-2 place-apart-requires agree-requires returns-3)
+    tie.close (tie.spec returns (λ c. omega (arith, in-cells (c .before .before .before))) (λ c. in-cells (c .before .before .before .before) .0)
+    (λ c. omega (arith, in-cells (c .before .before .before .before))) (λ c. in-cells (c .before .before .before .before .before) .1) returns-2
+    place-apart-requires agree-requires returns-3)

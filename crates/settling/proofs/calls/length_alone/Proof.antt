@@ -1,10 +1,9 @@
 -- `settling::calls::length_alone` meets its contract, in each arm. Assumes nothing.
-use mathlib.Core.Path.{sym, ap}
+use Rattle.laws.specs.Prelude.{sym, ap, needs}
 use Rattle.rules.specs.Calls.Answers.{onward}
 use Rattle.laws.specs.Calls.ShallowSettling.{plainAnswer}
 use Rattle.answers.specs.declared.layered.Layered.{Layered}
 use Rattle.answers.specs.Layered.{layeredOf}
-use borrow.Author.Needs.{needs}
 use Rattle.settling.proofs.calls.length_alone.Statement.{statement}
 use Rattle.settling.proofs.calls.length_alone.Tie as tie
 

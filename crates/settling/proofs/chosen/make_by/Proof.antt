@@ -1,7 +1,5 @@
 -- `settling::chosen::make_by` meets its contract. Assumes nothing.
-use mathlib.Core.Path.{_∙_}
-use native.Mathlib.Omega.{arith}
-use borrow.Author.Needs.{needs}
+use Rattle.laws.specs.Prelude.{_∙_, arith, needs}
 use Rattle.settling.specs.Calls.{makes-turned, makes-marked}
 use Rattle.settling.proofs.chosen.make_by.Statement.{statement}
 use Rattle.settling.proofs.chosen.make_by.Tie as tie
@@ -35,7 +33,8 @@ returns-2 c =
     let told = at-told (at-done c .before) in
     let a = at-start (at-read told) .args in
     at-done c .settle-marked .ensures
-    ∙ makes-marked (a .choice) (a .s .now) (a .cells .now) (a .marks .now) (a .out .now) _ _ (at-read told .read-input .ensures .taken (told .enum-told .given .1))
+    ∙ makes-marked (a .choice) (a .s .now) (a .cells .now) (a .marks .now) (a .out .now) _ _
+    (at-read told .read-input .ensures .taken (told .enum-told .given .1))
 
 pub make-by-spec : {M : Type 1} → statement M
 make-by-spec =

@@ -1,8 +1,7 @@
 -- `settling::chosen::settle_by` meets its contract. Assumes nothing.
-use mathlib.Core.Path.{sym}
+use Rattle.laws.specs.Prelude.{sym, needs}
 use Rattle.accepted.specs.Taken.{net-refused, net-taken}
 use Rattle.settling.specs.Calls.{settles-refused}
-use borrow.Author.Needs.{needs}
 use Rattle.settling.proofs.chosen.settle_by.Statement.{statement}
 use Rattle.settling.proofs.chosen.settle_by.Tie as tie
 
@@ -25,7 +24,8 @@ settle-net-requires c κs = net-taken _ _ (at-read (at-told c) .read-net .ensure
 returns : tie.Need-returns
 returns c =
     let a = at-start (c .before .before .before .before .before) .args in
-    sym (settles-refused (a .choice) (a .s .now) (a .cells .now) (a .marks .now) (a .out .now) _ _ (net-refused _ _ (c .before .before .before .before .before .read-net .ensures) _ _ (c .before .outcome .given .1)))
+    sym (settles-refused (a .choice) (a .s .now) (a .cells .now) (a .marks .now) (a .out .now) _ _
+    (net-refused _ _ (c .before .before .before .before .before .read-net .ensures) _ _ (c .before .outcome .given .1)))
 
 returns-2 : tie.Need-returns-2
 returns-2 c = at-settled c .settle-net .ensures

@@ -1,9 +1,7 @@
 -- `settling::chosen::settle_net` meets its contract. Assumes nothing.
-use mathlib.Core.Path.{_∙_}
-use native.Mathlib.Omega.{arith}
+use Rattle.laws.specs.Prelude.{_∙_, arith, needs}
 use Rattle.accepted.specs.Taken.{sound, own-most}
 use Rattle.settling.specs.Calls.{net-given, net-settled}
-use borrow.Author.Needs.{needs}
 use Rattle.settling.proofs.chosen.settle_net.Statement.{statement}
 use Rattle.settling.proofs.chosen.settle_net.Tie as tie
 

@@ -1,8 +1,5 @@
 -- `settling::input::read_input` meets its contract. Assumes nothing.
-use Prim.Native.Nat.{_≤_}
-use native.Mathlib.Omega.{arith}
-use borrow.Author.Needs.{needs}
-use lib.ListN.{length}
+use Rattle.laws.specs.Prelude.{_≤_, arith, length, needs}
 use Rattle.laws.specs.Numbers.Sizes.{Size}
 use Rattle.accepted.specs.Taken.{held-size, full-taken, inks-given}
 use Rattle.settling.specs.Outcomes.{given-size, given-count}
@@ -25,7 +22,8 @@ inside c =
 room-requires : tie.Need-room-requires
 room-requires c κs =
     let power = c .before .before in
-    let given = inks-given _ _ _ _ (power .power .ensures) (full-taken _ _ _ (at-read (power .before) .read-full .ensures) (power .before .enum-told .given .1)) in
+    let given = inks-given _ _ _ _ (power .power .ensures) (full-taken _ _ _ (at-read (power .before) .read-full .ensures)
+    (power .before .enum-told .given .1)) in
     (given-size _ _ _ given, given-count _ _ _ given)
 
 returns : tie.Need-returns
@@ -34,7 +32,8 @@ returns c = settling-sheet-refused _ _ _ _ _ (c .before .before .before .before 
 returns-2 : tie.Need-returns-2
 returns-2 c =
     let power = c .before .before .before in
-    room-judged _ _ _ _ _ (at-read (power .before) .read-full .ensures) (power .before .enum-told .given .1) _ (power .power .ensures) (inside power) _ (c .room .ensures)
+    room-judged _ _ _ _ _ (at-read (power .before) .read-full .ensures) (power .before .enum-told .given .1) _ (power .power .ensures) (inside power) _
+    (c .room .ensures)
 
 pub read-input-spec : {M : Type 1} → statement M
 read-input-spec =

@@ -1,12 +1,11 @@
 -- `settling::into::settle_into` meets its contract. Assumes nothing.
-use mathlib.Core.Path.{_≡_, sym, ap, _∙_}
+use Rattle.laws.specs.Prelude.{_≡_, _∙_, sym, ap, needs}
 use Rattle.rules.specs.Calls.Answers.{accepted}
 use Rattle.rules.specs.Calls.Settling.{roomFor}
 use Rattle.nets.specs.Forms.{tableIn}
 use Rattle.answers.specs.AnswerMaps.{outcomeAs}
 use Rattle.settling.specs.Room.{both-long}
 use Rattle.settling.specs.Outcomes.{netBy, given-size, given-count, layered-refused, layered-marked}
-use borrow.Author.Needs.{needs}
 use Rattle.settling.proofs.into.settle_into.Statement.{statement}
 use Rattle.settling.proofs.into.settle_into.Tie as tie
 
@@ -57,6 +56,5 @@ returns-2 c =
 
 pub settle-into-spec : {M : Type 1} → statement M
 settle-into-spec =
-    tie.close
-    (tie.spec room-requires (λ c. search needs) (λ c. search needs) settle-marked-requires (λ c. search needs) (λ c. search needs) returns
+    tie.close (tie.spec room-requires (λ c. search needs) (λ c. search needs) settle-marked-requires (λ c. search needs) (λ c. search needs) returns
     (λ c. search needs) (λ c. search needs) (λ c. search needs) returns-2)

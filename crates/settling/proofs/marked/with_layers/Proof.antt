@@ -1,10 +1,9 @@
 -- `settling::marked::with_layers` meets its contract, in each arm. Assumes nothing.
-use mathlib.Core.Path.{sym, ap}
+use Rattle.laws.specs.Prelude.{sym, ap, needs}
 use Rattle.rules.specs.Calls.Answers.{onward}
 use Rattle.rules.specs.Calls.ShallowSettling.{layered}
 use Rattle.answers.specs.declared.answer.Answer.{Answer}
 use Rattle.answers.specs.AnswerMaps.{answerOf}
-use borrow.Author.Needs.{needs}
 use Rattle.settling.proofs.marked.with_layers.Statement.{statement}
 use Rattle.settling.proofs.marked.with_layers.Tie as tie
 

@@ -1,8 +1,7 @@
 -- `settling::table::make_table` meets its contract: the settled choice, without the count of layers. Assumes nothing.
-use mathlib.Core.Path.{_∙_}
+use Rattle.laws.specs.Prelude.{_∙_, needs}
 use Rattle.laws.specs.Calls.ShallowSettling.{plain-into}
 use Rattle.settling.specs.Calls.{made-plain}
-use borrow.Author.Needs.{needs}
 use Rattle.settling.proofs.table.make_table.Statement.{statement}
 use Rattle.settling.proofs.table.make_table.Tie as tie
 

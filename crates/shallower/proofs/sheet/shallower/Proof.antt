@@ -1,11 +1,8 @@
 -- `shallower::sheet::shallower` meets its contract: the sheet that `which_of` names. Assumes nothing.
-use mathlib.Core.Path.{_≡_, sym, ap, _∙_}
-use mathlib.Core.List.{[]}
-use native.Mathlib.Nat.{zero-add}
+use Rattle.laws.specs.Prelude.{_≡_, _∙_, sym, ap, [], zero-add, needs}
 use Rattle.rules.specs.Calls.Shallower as rules
 use Rattle.shallower.specs.declared.which.Which.{Which}
 use Rattle.shallower.specs.Which.{handed, whichAs}
-use borrow.Author.Needs.{needs}
 use Rattle.shallower.proofs.sheet.shallower.Statement.{statement}
 use Rattle.shallower.proofs.sheet.shallower.Tie as tie
 
@@ -34,6 +31,5 @@ returns-3 c =
 
 pub shallower-spec : {M : Type 1} → statement M
 shallower-spec =
-    tie.close
-    (tie.spec (λ c κs. search needs) (λ c. search needs) (λ c. search needs) (λ c. search needs) (λ c. search needs) (λ c. search needs)
+    tie.close (tie.spec (λ c κs. search needs) (λ c. search needs) (λ c. search needs) (λ c. search needs) (λ c. search needs) (λ c. search needs)
     (λ c. search needs) returns returns-2 returns-3)

@@ -1,12 +1,11 @@
 -- `shallower::which::layers_in` meets its contract: the layers of the net that was read. Assumes nothing.
-use mathlib.Core.Path.{sym, ap, _∙_}
+use Rattle.laws.specs.Prelude.{_∙_, sym, ap, needs}
 use Rattle.rules.specs.Calls.Answers.{accepted}
 use Rattle.rules.specs.Nets.Layers.{layers}
 use Rattle.rules.specs.Calls.ShallowSettling.{netLayers}
 use Rattle.laws.specs.Calls.Shallower.{layers-refused, layers-accepted}
 use Rattle.nets.specs.Forms.{gatesOf, headerOf}
 use Rattle.accepted.specs.Taken.{NetTaken, net-taken, net-refused, sound}
-use borrow.Author.Needs.{needs}
 use Rattle.shallower.proofs.which.layers_in.Statement.{statement}
 use Rattle.shallower.proofs.which.layers_in.Tie as tie
 

@@ -1,16 +1,16 @@
 -- `shallower::which::which_by` meets its contract, in each arm. Assumes nothing.
-use mathlib.Core.Path.{_≡_, sym, ap₂, _∙_}
+use Rattle.laws.specs.Prelude.{_≡_, _∙_, sym, ap₂, needs}
 use Rattle.rules.specs.Calls.Shallower as rules
 use Rattle.rules.specs.Calls.Shallower.{whichBy}
 use Rattle.laws.specs.Calls.Shallower.{hands-second-shallower, first-kept, hands-first-readable, hands-second-readable, hands-none}
 use Rattle.answers.specs.declared.answer.Answer.{Answer}
 use Rattle.answers.specs.AnswerMaps.{answerOf}
-use borrow.Author.Needs.{needs}
 use Rattle.shallower.proofs.which.which_by.Statement.{statement}
 use Rattle.shallower.proofs.which.which_by.Tie as tie
 
 -- two answers that are known
-by : (first second a b : Answer) (w : rules.Which) → first ≡ a → second ≡ b → whichBy (answerOf a) (answerOf b) ≡ w → w ≡ whichBy (answerOf first) (answerOf second)
+by : (first second a b : Answer) (w : rules.Which) → first ≡ a → second ≡ b → whichBy (answerOf a) (answerOf b) ≡ w
+    → w ≡ whichBy (answerOf first) (answerOf second)
 by first second a b w e d is = sym (ap₂ (λ (x y : Answer). whichBy (answerOf x) (answerOf y)) e d ∙ is)
 
 -- the first sheet's layers are known, from the second's
@@ -38,6 +38,5 @@ returns-5 c = by _ _ _ _ _ (c .before .before .enum-told2 .given .1) (c .enum-to
 
 pub which-by-spec : {M : Type 1} → statement M
 which-by-spec =
-    tie.close
-    (tie.spec (λ c. search needs) (λ c. search needs) (λ c. search needs) (λ c. search needs) (λ c. search needs) (λ c. search needs)
-    returns returns-2 returns-3 returns-4 returns-5)
+    tie.close (tie.spec (λ c. search needs) (λ c. search needs) (λ c. search needs) (λ c. search needs) (λ c. search needs) (λ c. search needs) returns
+    returns-2 returns-3 returns-4 returns-5)

@@ -1,7 +1,6 @@
 -- `shallower::which::which_of` meets its contract: the layers of each, and then which. Assumes nothing.
-use mathlib.Core.Path.{ap₂, _∙_}
+use Rattle.laws.specs.Prelude.{_∙_, ap₂, needs}
 use Rattle.rules.specs.Calls.Shallower.{whichBy, whichOf}
-use borrow.Author.Needs.{needs}
 use Rattle.shallower.proofs.which.which_of.Statement.{statement}
 use Rattle.shallower.proofs.which.which_of.Tie as tie
 

@@ -1,11 +1,7 @@
 -- `table_printer::lengths::decimal_length` meets its contract. The loop's invariant: the digits counted plus those of `rest` are one more
 -- than those of k, since the last digit of `rest` is in both.
 -- Assumes nothing.
-use Prim.Native.Nat.{ℕ, _+_, _/_, _%_, _≤_}
-use mathlib.Core.Path.{_≡_, ap, _∙_}
-use mathlib.Core.List.{[], _∷_}
-use native.Mathlib.Omega.{arith}
-use lib.ListN.{length, length-append}
+use Rattle.laws.specs.Prelude.{ℕ, _≤_, _+_, _%_, _/_, _≡_, _∙_, ap, [], _∷_, arith, length, length-append}
 use Rattle.rules.specs.Text.{digitByte, decimal}
 use Rattle.laws.specs.Numbers.Decimals.{decimal-one, decimal-more, decimal-length}
 use Rattle.table_printer.specs.Lengths.{mostDecimal}

@@ -1,11 +1,6 @@
 -- `table_printer::lengths::names_length` meets its contract. The loop's invariant: `total` is the length of the first i names.
 -- Assumes nothing.
-use Prim.Native.Nat.{ℕ, _+_, _-_, _*_, _≤_}
-use mathlib.Core.Path.{_≡_, refl, ap, _∙_}
-use mathlib.Core.List.{List}
-use native.Mathlib.Numerals.{add-one}
-use native.Mathlib.Omega.{arith}
-use lib.ListN.{getD}
+use Rattle.laws.specs.Prelude.{ℕ, _≤_, _+_, _-_, _*_, _≡_, _∙_, ap, refl, List, add-one, arith, getD}
 use Rattle.table_printer.specs.Lengths.{lensTotal}
 use Rattle.table_printer.proofs.lengths.names_length.Statement.{statement}
 use Rattle.table_printer.proofs.lengths.names_length.Tie as tie
@@ -29,7 +24,16 @@ unfolding lensTotal
 loop-holds c = (omega arith, refl, omega arith)
 
 loop-again : tie.Need-loop-again Inv-loop μ-loop
-loop-again c = (omega arith, omega (arith, more (at-start (c .before) .args .h .lens) (c .before .before .loop .i), c .wide .ensures .0, c .before .before .loop .inv .1), omega arith)
+loop-again c = (
+  omega arith,
+  omega (
+    arith,
+    more (at-start (c .before) .args .h .lens) (c .before .before .loop .i),
+    c .wide .ensures .0,
+    c .before .before .loop .inv .1,
+  ),
+  omega arith,
+)
 
 returns : tie.Need-returns Inv-loop μ-loop
 returns c =

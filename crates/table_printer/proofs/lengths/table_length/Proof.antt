@@ -1,10 +1,6 @@
 -- `table_printer::lengths::table_length` meets its contract.
 -- Assumes nothing.
-use Prim.Native.Nat.{ℕ, _+_, _*_, _≤_}
-use mathlib.Core.Path.{ap}
-use native.Mathlib.Nat.{mul-le-mul}
-use native.Mathlib.Omega.{arith}
-use borrow.Author.Needs.{needs}
+use Rattle.laws.specs.Prelude.{ℕ, _≤_, _+_, _*_, ap, mul-le-mul, arith, needs}
 use Rattle.table_printer.specs.Lengths.{names-total, printed-table-length}
 use Rattle.table_printer.proofs.lengths.table_length.Statement.{statement}
 use Rattle.table_printer.proofs.lengths.table_length.Tie as tie

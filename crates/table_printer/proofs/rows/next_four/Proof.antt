@@ -1,8 +1,7 @@
 -- `table_printer::rows::next_four` meets its contract: which of the four levels p, q, r and s is incremented.
 -- Assumes nothing.
-use mathlib.Core.Path.{refl}
+use Rattle.laws.specs.Prelude.{refl, needs}
 use Rattle.table_printer.specs.Rows.Next.{last-moves, last-top, third-moves, third-top, second-moves, second-top, first-moves, none-moves}
-use borrow.Author.Needs.{needs}
 use Rattle.table_printer.proofs.rows.next_four.Statement.{statement}
 use Rattle.table_printer.proofs.rows.next_four.Tie as tie
 

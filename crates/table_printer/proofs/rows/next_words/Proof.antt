@@ -1,8 +1,7 @@
 -- `table_printer::rows::next_words` meets its contract: the last four change and, if they become zeros, those before them too.
 -- Assumes nothing.
-use native.Mathlib.Omega.{arith}
+use Rattle.laws.specs.Prelude.{arith, needs}
 use Rattle.table_printer.specs.Rows.Next.{for-four, row-stays, row-turns}
-use borrow.Author.Needs.{needs}
 use Rattle.table_printer.proofs.rows.next_words.Statement.{statement}
 use Rattle.table_printer.proofs.rows.next_words.Tie as tie
 
@@ -16,7 +15,8 @@ returns-2 c ls row =
     let turned = c .before .before .before .before .before .before in
     let start = turned .before .before .before in
     let four = for-four _ _ _ (turned .before .next-four .ensures) (row .four) (row .count) (row .below) (row .last) in
-    row-turns _ _ _ _ ls row _ four (omega (arith, start .pre .1)) (start .pre .3) (turned .if1 .left) _ (c .before .before .before .before .next-levels .ensures) _ (c .words-of .ensures)
+    row-turns _ _ _ _ ls row _ four (omega (arith, start .pre .1)) (start .pre .3) (turned .if1 .left) _
+    (c .before .before .before .before .next-levels .ensures) _ (c .words-of .ensures)
 
 pub next-words-spec : {M : Type 1} → statement M
 next-words-spec =

@@ -1,12 +1,7 @@
 -- `table_printer::rows::put_word` meets its contract: eight stores.
 -- Assumes nothing.
-use Prim.Native.Nat.{_/_, _%_}
-use mathlib.Core.Path.{ap, _∙_}
-use native.Mathlib.Omega.{arith}
-use lib.ListN.{length-set}
-use lib.Seq.{sets}
+use Rattle.laws.specs.Prelude.{_%_, _/_, _∙_, ap, arith, length-set, sets, needs}
 use Rattle.table_printer.specs.Rows.Words.{bytes-set, word-bytes}
-use borrow.Author.Needs.{needs}
 use Rattle.table_printer.proofs.rows.put_word.Statement.{statement}
 use Rattle.table_printer.proofs.rows.put_word.Tie as tie
 

@@ -1,8 +1,6 @@
 -- `table_printer::table::ink_byte` meets its contract: the two cases of the byte.
 -- Assumes nothing.
-use Prim.Native.Nat.{ℕ, _+_}
-use mathlib.Core.Path.{_≡_, sym}
-use native.Mathlib.Omega.{arith}
+use Rattle.laws.specs.Prelude.{ℕ, _+_, _≡_, sym, arith}
 use Rattle.rules.specs.Text.{digitByte}
 use Rattle.rules.specs.Sheets.Sheets.{inkByte}
 use Rattle.laws.specs.Nets.Inks.{open-byte, level-byte}

@@ -1,12 +1,7 @@
 -- `table_printer::table::narrow_rows` meets its contract. The loop's invariant: `levels` begins with the levels of index k, and the rows
 -- from k on are left to write at p.
 -- Assumes nothing.
-use Prim.Native.Nat.{ℕ, _+_, _-_, _≤_, _<_}
-use mathlib.Core.Path.{_≡_, refl, ap, _∙_}
-use mathlib.Core.List.{List, _++_}
-use native.Mathlib.Nat.{sub-zero}
-use native.Mathlib.Omega.{arith}
-use lib.ListN.{length, getD, take, drop}
+use Rattle.laws.specs.Prelude.{ℕ, _<_, _≤_, _+_, _-_, _≡_, _∙_, ap, refl, List, _++_, sub-zero, arith, length, getD, take, drop}
 use Rattle.rules.specs.Limits.{mostLevels, mostInputs}
 use Rattle.rules.specs.Sheets.Sheets.{levelsAt, inkByte}
 use Rattle.rules.specs.Sheets.Printed.{printedRows}
@@ -65,7 +60,8 @@ print-row-requires c κs =
     let at = at-turn c .before .loop in
     let more = at-turn c .loop-test .taken in (
       digits (start .args .m) (start .args .n) (at .k) (at .levels) (at .inv .1) (start .pre .0) (start .pre .1),
-      row-room (start .args .m) (start .args .n) (at .k) (at .levels) (at .inv .1) (start .args .inks .now) more (c .before .before .before .ink-byte .ensures) (at .inv .2),
+      row-room (start .args .m) (start .args .n) (at .k) (at .levels) (at .inv .1) (start .args .inks .now) more (c .before .before .before .ink-byte .ensures)
+          (at .inv .2),
     )
 
 next-levels-requires : tie.Need-next-levels-requires Inv-loop μ-loop
@@ -82,15 +78,15 @@ loop-again c =
     let front = at .inv .1 in (
       front-kept (start .args .m) (start .args .n) (at .k) (start .pre .0) _ _ front did (omega (arith, start .pre .2, at .inv .0)) ∙ at .inv .0,
       front-next (start .args .m) (start .args .n) (at .k) (start .pre .0) _ _ front did,
-      put-left (first-row (start .args .m) (start .args .n) (at .k) (at .levels) front (start .args .inks .now) (at-turn (row .before) .loop-test .taken) (row .before .before .before .before .ink-byte .ensures) (at .inv .2)) (row .print-row .ensures),
+      put-left (first-row (start .args .m) (start .args .n) (at .k) (at .levels) front (start .args .inks .now) (at-turn (row .before) .loop-test .taken)
+          (row .before .before .before .before .ink-byte .ensures) (at .inv .2)) (row .print-row .ensures),
     )
 
 returns : tie.Need-returns Inv-loop μ-loop
-returns c = none-left (rw (rows-end (c .before .before .before .before .args .m) (c .before .before .before .before .args .n) (c .before .loop .k) (c .before .before .before .before .args .inks .now) (c .loop-test .left)) at (c .before .loop .inv .2))
+returns c = none-left (rw (rows-end (c .before .before .before .before .args .m) (c .before .before .before .before .args .n) (c .before .loop .k)
+    (c .before .before .before .before .args .inks .now) (c .loop-test .left)) at (c .before .loop .inv .2))
 
 pub narrow-rows-spec : {M : Type 1} → statement M
 narrow-rows-spec =
-    tie.close
-    (tie.spec Inv-loop μ-loop loop-holds (λ c. omega arith) ink-byte-requires (λ c. omega arith) (λ c. omega arith) part-print-row-end
-    print-row-requires (λ c. omega arith) next-levels-requires (λ c. omega arith) (λ c. omega arith) loop-again
-    (λ c. c .before .loop .inv .2 .kept) returns)
+    tie.close (tie.spec Inv-loop μ-loop loop-holds (λ c. omega arith) ink-byte-requires (λ c. omega arith) (λ c. omega arith) part-print-row-end
+    print-row-requires (λ c. omega arith) next-levels-requires (λ c. omega arith) (λ c. omega arith) loop-again (λ c. c .before .loop .inv .2 .kept) returns)

@@ -1,9 +1,6 @@
 -- `table_printer::table::print_row` meets its contract. The loop's invariant: the row from level i on is left to write at p.
 -- Assumes nothing.
-use Prim.Native.Nat.{_+_, _-_, _≤_}
-use mathlib.Core.List.{[], _∷_}
-use native.Mathlib.Omega.{arith}
-use lib.ListN.{length, getD, length-set}
+use Rattle.laws.specs.Prelude.{_≤_, _+_, _-_, [], _∷_, arith, length, getD, length-set}
 use Rattle.rules.specs.Text.{space, newline, digitByte, zeroByte, spaceByte, newlineByte}
 use Rattle.net_sheets.specs.Text.Put.{NetLeft, parts-left, bytes-left, none-left}
 use Rattle.table_printer.specs.Rows.Rows.{rowText, rowFromInput, row-all, printed-row-next, row-end}
@@ -18,15 +15,20 @@ abbrev μ-loop : tie.MeasureT-loop
 
 turn : (c : tie.After-shared-slice-known Inv-loop μ-loop)
     → NetLeft (c .before .before .loop .out) (c .before .before .loop .p)
-    ((zeroByte + getD (c .before .before .before .args .levels .now) (c .before .before .loop .i) 0) ∷ spaceByte ∷ rowFromInput (c .before .before .before .args .levels .now) (c .before .before .before .args .ink) (c .before .before .loop .i + 1))
-    (c .before .before .before .args .out .now) (c .before .before .before .args .at) (rowText (c .before .before .before .args .levels .now) (c .before .before .before .args .ink))
+    ((zeroByte + getD (c .before .before .before .args .levels .now) (c .before .before .loop .i) 0) ∷ spaceByte ∷ rowFromInput
+    (c .before .before .before .args .levels .now) (c .before .before .before .args .ink) (c .before .before .loop .i + 1))
+    (c .before .before .before .args .out .now) (c .before .before .before .args .at)
+    (rowText (c .before .before .before .args .levels .now) (c .before .before .before .args .ink))
 unfolding digitByte space
-turn c = rw (printed-row-next (c .before .before .before .args .levels .now) (c .before .before .before .args .ink) (c .before .before .loop .i) (c .before .loop-test .taken)) at (c .before .before .loop .inv .1)
+turn c = rw (printed-row-next (c .before .before .before .args .levels .now) (c .before .before .before .args .ink) (c .before .before .loop .i)
+    (c .before .loop-test .taken)) at (c .before .before .loop .inv .1)
 
 last : (c : tie.After-loop Inv-loop μ-loop)
-    → NetLeft (c .before .loop .out) (c .before .loop .p) (c .before .before .args .ink ∷ newlineByte ∷ []) (c .before .before .args .out .now) (c .before .before .args .at) (rowText (c .before .before .args .levels .now) (c .before .before .args .ink))
+    → NetLeft (c .before .loop .out) (c .before .loop .p) (c .before .before .args .ink ∷ newlineByte ∷ []) (c .before .before .args .out .now)
+    (c .before .before .args .at) (rowText (c .before .before .args .levels .now) (c .before .before .args .ink))
 unfolding newline
-last c = rw (row-end (c .before .before .args .levels .now) (c .before .before .args .ink) (c .before .loop .i) (c .loop-test .left)) at (c .before .loop .inv .1)
+last c =
+    rw (row-end (c .before .before .args .levels .now) (c .before .before .args .ink) (c .before .loop .i) (c .loop-test .left)) at (c .before .loop .inv .1)
 
 loop-holds : tie.Need-loop-holds Inv-loop μ-loop
 loop-holds c = (omega arith, parts-left (row-all (c .args .levels .now) (c .args .ink)) (c .pre .1))

@@ -1,9 +1,6 @@
 -- `table_printer::table::print_table` meets its contract: after each call, what is left to write.
 -- Assumes nothing.
-use Prim.Native.Nat.{ℕ}
-use mathlib.Core.List.{List, [], _∷_, _++_}
-use native.Mathlib.Omega.{arith}
-use borrow.Author.Needs.{needs}
+use Rattle.laws.specs.Prelude.{ℕ, List, [], _∷_, _++_, arith, needs}
 use Rattle.rules.specs.Text.{space, newline, text, decimal}
 use Rattle.rules.specs.Sheets.Printed.{line, printedRows, printedTable}
 use Rattle.nets.specs.Forms.{nameIn, tableIn}
@@ -54,7 +51,8 @@ Rest c out at t = NetLeft out at t (c .args .out .now) 0 (printedTable (tableIn 
 start : (c : tie.Start) → Rest c (c .args .out .now) 0 (firstTwo c ++ (names c ++ (ink ++ rows c)))
 start c = parts-left (table-parts (c .args .s .now) (c .args .h) (c .args .inks .now)) (omega (arith, c .pre .1))
 
-after-pair : (c : tie.After-print-pair) → Rest (pair-start c) (c .print-pair .last .1 .1 .1 .0) (c .print-pair .result) (names (pair-start c) ++ (ink ++ rows (pair-start c)))
+after-pair : (c : tie.After-print-pair) → Rest (pair-start c) (c .print-pair .last .1 .1 .1 .0) (c .print-pair .result)
+    (names (pair-start c) ++ (ink ++ rows (pair-start c)))
 unfolding line text space newline
 after-pair c = put-left (start (pair-start c)) (c .print-pair .ensures)
 
@@ -70,7 +68,11 @@ unfolding line text space newline
 print-pair-requires c κs = room-for (firstTwo (at-start c)) (names (at-start c) ++ (ink ++ rows (at-start c))) (start (at-start c))
 
 print-names-requires : tie.Need-print-names-requires
-print-names-requires c κs = (pair-start (at-pair c) .pre .0 .names, omega arith, room-for (names (pair-start (at-pair c))) (ink ++ rows (pair-start (at-pair c))) (after-pair (at-pair c)))
+print-names-requires c κs = (
+  pair-start (at-pair c) .pre .0 .names,
+  omega arith,
+  room-for (names (pair-start (at-pair c))) (ink ++ rows (pair-start (at-pair c))) (after-pair (at-pair c)),
+)
 
 copy-requires : tie.Need-copy-requires
 unfolding line text space newline
@@ -82,10 +84,10 @@ print-rows-requires c κs =
     (inside .someLevels, inside .levels, inside .names .count, inside .digits, after-ink (at-copy c) .room)
 
 returns : tie.Need-returns
-returns c = put-wrote (copy-start (at-copy (c .before .before .before)) .pre .1) (last-put (after-ink (at-copy (c .before .before .before))) (c .before .before .print-rows .ensures))
+returns c = put-wrote (copy-start (at-copy (c .before .before .before)) .pre .1)
+    (last-put (after-ink (at-copy (c .before .before .before))) (c .before .before .print-rows .ensures))
 
 pub print-table-spec : {M : Type 1} → statement M
 print-table-spec =
-    tie.close
-    (tie.spec (λ c. search needs) print-pair-requires print-names-requires (λ c. search needs) copy-requires print-rows-requires
-    (λ c. search needs) returns)
+    tie.close (tie.spec (λ c. search needs) print-pair-requires print-names-requires (λ c. search needs) copy-requires print-rows-requires (λ c. search needs)
+    returns)

@@ -1,12 +1,7 @@
 -- `table_printer::table::wide_rows` meets its contract. The loop's invariant: `words` and `levels` spell the levels of index k, and the rows
 -- from k on are left to write at p.
 -- Assumes nothing.
-use Prim.Native.Nat.{ℕ, _+_, _-_, _*_, _≤_, _<_}
-use mathlib.Core.Path.{_≡_, refl, sym, ap, _∙_}
-use mathlib.Core.List.{List, _++_}
-use native.Mathlib.Numerals.{add-one}
-use native.Mathlib.Omega.{arith}
-use lib.ListN.{length, getD, drop}
+use Rattle.laws.specs.Prelude.{ℕ, _<_, _≤_, _+_, _-_, _*_, _≡_, _∙_, sym, ap, refl, List, _++_, add-one, arith, length, getD, drop}
 use Rattle.rules.specs.Limits.{mostInputs}
 use Rattle.rules.specs.Sheets.Sheets.{levelsAt, inkByte}
 use Rattle.rules.specs.Sheets.Printed.{printedRows}
@@ -20,7 +15,8 @@ use Rattle.table_printer.proofs.table.wide_rows.Tie as tie
 
 abbrev Inv-loop : tie.InvT-loop
 Inv-loop m n inks out₀ at levels₀ words₀ k₀ p₀ out levels words k p =
-    (length levels ≡ mostInputs) × PrintedSpells m n words levels (levelsAt m n k) × NetLeft out p (printedRows m n k (drop k inks)) out₀ at (printedRows m n 0 inks)
+    (length levels ≡ mostInputs) × PrintedSpells m n words levels (levelsAt m n k)
+    × NetLeft out p (printedRows m n k (drop k inks)) out₀ at (printedRows m n 0 inks)
 
 abbrev μ-loop : tie.MeasureT-loop
 μ-loop m n inks out₀ at levels₀ words₀ k₀ p₀ out levels words k p = length inks - k
@@ -46,7 +42,12 @@ module _ (m n k : ℕ) (inks : List ℕ) (h : k < length inks) {b : ℕ} (byte :
 
   row-room : p + (2 * n + 2) ≤ length out
   row-room =
-      omega (arith, room-for (rowText (levelsAt m n k) b) (printedRows m n (k + 1) (drop (k + 1) inks)) first-row, row-text-length (levelsAt m n k) b, levels-length m n k)
+      omega (
+        arith,
+        room-for (rowText (levelsAt m n k) b) (printedRows m n (k + 1) (drop (k + 1) inks)) first-row,
+        row-text-length (levelsAt m n k) b,
+        levels-length m n k,
+      )
 
 loop-holds : tie.Need-loop-holds Inv-loop μ-loop
 loop-holds c =
@@ -60,8 +61,12 @@ wide-row-requires : tie.Need-wide-row-requires Inv-loop μ-loop
 wide-row-requires c κs =
     let turn = at-turn (c .before) in
     let start = at-start turn in
-    let at = turn .before .loop in
-    (start .pre .2, start .pre .3, row-room (start .args .m) (start .args .n) (at .k) (start .args .inks .now) (turn .loop-test .taken) (c .before .ink-byte .ensures) (at .inv .2))
+    let at = turn .before .loop in (
+      start .pre .2,
+      start .pre .3,
+      row-room (start .args .m) (start .args .n) (at .k) (start .args .inks .now) (turn .loop-test .taken)
+          (c .before .ink-byte .ensures) (at .inv .2),
+    )
 
 next-words-requires : tie.Need-next-words-requires Inv-loop μ-loop
 next-words-requires c κs =
@@ -81,10 +86,12 @@ loop-again c =
     let turn = at-turn (at-ink row) in
     let start = at-start turn in
     let at = turn .before .loop in
-    let next : levelsAt (start .args .m) (start .args .n) (at .k + 1) ≡ _ = ap (levelsAt (start .args .m) (start .args .n)) (add-one (at .k)) ∙ levels-next (start .args .m) (start .args .n) (at .k) (start .pre .0) in (
+    let next : levelsAt (start .args .m) (start .args .n) (at .k + 1) ≡ _ =
+    ap (levelsAt (start .args .m) (start .args .n)) (add-one (at .k)) ∙ levels-next (start .args .m) (start .args .n) (at .k) (start .pre .0) in (
       omega arith,
       rw next (c .before .next-words .ensures _ (at .inv .1)),
-      put-left (first-row (start .args .m) (start .args .n) (at .k) (start .args .inks .now) (turn .loop-test .taken) (at-ink row .ink-byte .ensures) (at .inv .2)) (row .wide-row .ensures (start .args .m) (at .levels) _ (start .pre .1) (at .inv .1)),
+      put-left (first-row (start .args .m) (start .args .n) (at .k) (start .args .inks .now) (turn .loop-test .taken) (at-ink row .ink-byte .ensures)
+          (at .inv .2)) (row .wide-row .ensures (start .args .m) (at .levels) _ (start .pre .1) (at .inv .1)),
     )
 
 returns : tie.Need-returns Inv-loop μ-loop
@@ -94,7 +101,6 @@ returns c =
 
 pub wide-rows-spec : {M : Type 1} → statement M
 wide-rows-spec =
-    tie.close
-    (tie.spec Inv-loop μ-loop loop-holds (λ c. omega arith) ink-byte-requires wide-row-requires
-    (λ c. sym (at-turn (at-ink (at-row c)) .before .loop .inv .0)) next-words-requires add-k loop-less loop-again
-    (λ c. c .before .loop .inv .2 .kept) returns)
+    tie.close (tie.spec Inv-loop μ-loop loop-holds (λ c. omega arith) ink-byte-requires wide-row-requires
+    (λ c. sym (at-turn (at-ink (at-row c)) .before .loop .inv .0)) next-words-requires add-k loop-less loop-again (λ c. c .before .loop .inv .2 .kept)
+    returns)

@@ -1,9 +1,8 @@
 -- `table_printer::write::write_table` meets its contract: the refusals of the net sheet, or the result of writing its table.
 -- Assumes nothing.
-use mathlib.Core.Path.{sym}
+use Rattle.laws.specs.Prelude.{sym, needs}
 use Rattle.laws.specs.Calls.TableWriting as outcomes
 use Rattle.accepted.specs.Taken.{net-refused, net-taken}
-use borrow.Author.Needs.{needs}
 use Rattle.table_printer.proofs.write.write_table.Statement.{statement}
 use Rattle.table_printer.proofs.write.write_table.Tie as tie
 
@@ -11,7 +10,8 @@ write-accepted-requires : tie.Need-write-accepted-requires
 write-accepted-requires c κs = net-taken _ _ (c .before .before .before .before .before .read-net .ensures) (c .before .enum-told .given .1)
 
 returns : tie.Need-returns
-returns c = sym (outcomes.table-refused _ _ _ _ (net-refused _ _ (c .before .before .before .before .before .read-net .ensures) _ _ (c .before .outcome .given .1)))
+returns c =
+    sym (outcomes.table-refused _ _ _ _ (net-refused _ _ (c .before .before .before .before .before .read-net .ensures) _ _ (c .before .outcome .given .1)))
 
 pub write-table-spec : {M : Type 1} → statement M
 write-table-spec =

@@ -1,7 +1,6 @@
 -- `table_reader::digits::judge_digit` meets its contract, by the field's length and byte.
 -- Assumes nothing.
-use borrow.Author.Needs.{needs}
-use native.Mathlib.Omega.{arith}
+use Rattle.laws.specs.Prelude.{arith, needs}
 use Rattle.table_reader.specs.Digits.{digit-long, digit-low, digit-high, digit-good}
 use Rattle.table_reader.proofs.digits.judge_digit.Statement.{statement}
 use Rattle.table_reader.proofs.digits.judge_digit.Tie as tie

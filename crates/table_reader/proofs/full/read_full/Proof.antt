@@ -1,7 +1,6 @@
 -- `table_reader::full::read_full` meets its contract: the sheet is refused like any table sheet, or read and its cells judged.
 -- Assumes nothing.
-use native.Mathlib.Omega.{arith}
-use borrow.Author.Needs.{needs}
+use Rattle.laws.specs.Prelude.{arith, needs}
 use Rattle.laws.specs.Numbers.Sizes.{Size, sized}
 use Rattle.table_reader.specs.Full.{full-refused, full-judged, table-front-within}
 use Rattle.table_reader.proofs.full.read_full.Statement.{statement}
@@ -15,7 +14,8 @@ abbrev at-told : tie.After-cells2 → tie.After-enum-told2
 at-told c = c .before .before
 
 -- the sizes of a sheet that was read
-size : (c : tie.After-enum-told2) → Size (at-read (c .before .before) .read-table .result .header .levels) (at-read (c .before .before) .read-table .result .header .inputs)
+size : (c : tie.After-enum-told2) → Size (at-read (c .before .before) .read-table .result .header .levels)
+    (at-read (c .before .before) .read-table .result .header .inputs)
 size c = sized _ _ (at-read (c .before .before) .read-table .ensures .held (c .enum-told2 .given .1) .header .fits)
 
 power-requires : tie.Need-power-requires

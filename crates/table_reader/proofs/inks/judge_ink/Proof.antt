@@ -1,7 +1,6 @@
 -- `table_reader::inks::judge_ink` meets its contract: the sign of an open cell, or a digit.
 -- Assumes nothing.
-use mathlib.Core.Path.{sym, _∙_}
-use borrow.Author.Needs.{needs}
+use Rattle.laws.specs.Prelude.{_∙_, sym, needs}
 use Rattle.table_reader.specs.Inks.{ink-open, ink-digits}
 use Rattle.table_reader.proofs.inks.judge_ink.Statement.{statement}
 use Rattle.table_reader.proofs.inks.judge_ink.Tie as tie

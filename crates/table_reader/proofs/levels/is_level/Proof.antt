@@ -1,7 +1,6 @@
 -- `table_reader::levels::is_level` meets its contract, by the field's length and byte.
 -- Assumes nothing.
-use borrow.Author.Needs.{needs}
-use native.Mathlib.Omega.{arith}
+use Rattle.laws.specs.Prelude.{arith, needs}
 use Rattle.table_reader.specs.Levels.{level-long, table-level-byte}
 use Rattle.table_reader.proofs.levels.is_level.Statement.{statement}
 use Rattle.table_reader.proofs.levels.is_level.Tie as tie

@@ -1,8 +1,6 @@
 -- `table_reader::row::row` meets its contract. The loop's invariant: the levels from here are the levels from the start.
 -- Assumes nothing.
-use Prim.Native.Nat.{_-_}
-use native.Mathlib.Omega.{arith}
-use borrow.Author.Needs.{needs}
+use Rattle.laws.specs.Prelude.{_-_, arith, needs}
 use Rattle.table_reader.specs.Row.{InRow, row-start, row-back, table-row-next, row-done}
 use Rattle.table_reader.proofs.row.row.Statement.{statement}
 use Rattle.table_reader.proofs.row.row.Tie as tie

@@ -1,13 +1,10 @@
 -- `table_reader::rows::rows` meets its contract. The loop's invariant: the rows from here are the rows from the start, and `levels` begins with
 -- the levels of index p. Assumes nothing.
-use Prim.Native.Nat.{_-_, _^_, _≤_, _<_}
-use mathlib.Core.Path.{_≡_, refl, sym, _∙_}
-use native.Mathlib.Omega.{arith}
-use borrow.Author.Needs.{needs}
-use lib.ListN.{length, length-set}
+use Rattle.laws.specs.Prelude.{_<_, _≤_, _-_, _^_, _≡_, _∙_, sym, refl, arith, length, length-set, needs}
 use Rattle.rules.specs.Limits.{mostInputs}
 use Rattle.laws.specs.Numbers.Levels.{zeros-front, front-next}
 use Rattle.laws.specs.Numbers.Sizes.{Size, sized}
+use Rattle.table_reader.specs.Fast.Blocks.{two-zeros}
 use Rattle.table_reader.specs.Fast.Rows.{InRows, row-due, rows-back, reached-next, rows-done, ink-within}
 use Rattle.table_reader.proofs.rows.rows.Statement.{statement}
 use Rattle.table_reader.proofs.rows.rows.Tie as tie
@@ -65,7 +62,9 @@ due-rows-requires : tie.Need-due-rows-requires Inv-loop μ-loop
 due-rows-requires c κs =
     let from = at-start (c .before .before) in
     let most = size from .inputs-most in
-    record { size = from .pre .0; short = most; due = zeros-front _ _ mostInputs most; room = from .pre .1 }
+    let front = from .args .n - 2 in
+    let zeros = two-zeros front mostInputs (omega (arith, size from .inputs-least)) in
+    record { size = from .pre .0; short = most; due = zeros-front _ front mostInputs (omega arith); zeros = zeros; room = from .pre .1 }
 
 loop-holds : tie.Need-loop-holds Inv-loop μ-loop
 loop-holds c = let due = c .before .before .before .due-rows in (refl, due .kept .1 .1 .1 .1 .0, due .ensures)
@@ -74,13 +73,15 @@ returns : tie.Need-returns Inv-loop μ-loop
 returns c =
     let turn = at-turn (c .before .before) in
     let rows = turn .before .loop .inv .2 in
-    rows-back _ _ _ _ _ _ _ (rows .reached) (more turn) _ (row-due rows (c .before .before .row .result) (c .before .before .row .ensures)) _ _ (c .enum-told .given .1)
+    let row = c .before .before .row in
+    rows-back _ _ _ _ _ _ _ (rows .reached) (more turn) _ (row-due rows (row .result) (row .ensures)) _ _ (c .enum-told .given .1)
 
 cast-cells : tie.Need-cast-cells Inv-loop μ-loop
 cast-cells c =
     let turn = at-turn (at-row c) in
     let rows = turn .before .loop .inv .2 in
-    let small = ink-within _ _ _ _ _ _ _ (rows .reached) (more turn) _ (row-due rows (at-row c .row .result) (at-row c .row .ensures)) _ _ (c .before .step .given .1) in
+    let row = at-row c .row in
+    let small = ink-within _ _ _ _ _ _ _ (rows .reached) (more turn) _ (row-due rows (row .result) (row .ensures)) _ _ (c .before .step .given .1) in
     omega (arith, small, size (start (turn .before)) .levels-most)
 
 -- a turn's cell is inside the buffer
@@ -106,7 +107,9 @@ loop-again c =
       simp length-set (head .loop .inv .0),
       c .before .next-levels .kept .1 .1 .0 ∙ head .loop .inv .1,
       record {
-        reached = reached-next _ _ _ _ _ _ _ (rows .reached) (more turn) _ (row-due rows (row .row .result) (row .row .ensures)) _ _ (at-ink c .before .step .given .1) (cell turn);
+        reached =
+            reached-next _ _ _ _ _ _ _ (rows .reached) (more turn) _ (row-due rows (row .row .result) (row .row .ensures)) _ _
+            (at-ink c .before .step .given .1) (cell turn);
         due = front-next _ _ _ (omega (arith, size (start head) .levels-least)) _ _ (rows .due) (c .before .next-levels .ensures);
       },
     )

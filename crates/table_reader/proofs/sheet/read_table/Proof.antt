@@ -1,7 +1,6 @@
 -- `table_reader::sheet::read_table` meets its contract: the first lines, then the rows.
 -- Assumes nothing.
-use native.Mathlib.Nat.{le-trans}
-use borrow.Author.Needs.{needs}
+use Rattle.laws.specs.Prelude.{le-trans, needs}
 use Rattle.laws.specs.Numbers.Sizes.{sized}
 use Rattle.table_reader.specs.TableReading.{table-refused, table-ended}
 use Rattle.table_reader.proofs.sheet.read_table.Statement.{statement}

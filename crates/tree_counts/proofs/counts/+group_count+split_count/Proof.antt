@@ -1,13 +1,8 @@
 -- `tree_counts::counts::group_count` and `split_count`, which call each other, meet their contracts. The measure is twice the number of members, and
 -- one less for a split: "the number of members, with a split position, falls". The loop's invariant: the recorded counts are right, and the sum is
 -- that of the splits passed. Assumes nothing.
-use Prim.Native.Nat.{ℕ, _+_, _-_, _*_, _^_, _<_}
-use mathlib.Core.Path.{_≡_, refl, sym, ap₂, _∙_}
-use mathlib.Core.Logic.{_≢_, ⊎-elim}
-use mathlib.Core.List.{List}
-use native.Mathlib.Omega.{arith}
-use borrow.Author.Tests.{eqb-true, eqb-false, not-true}
-use lib.ListN.{length, length-set}
+use Rattle.laws.specs.Prelude.{ℕ, _<_, _+_, _-_, _^_, _*_, _≡_, _∙_, sym, refl, ap₂, _≢_, ⊎-elim, List, arith, length, length-set, eqb-true, eqb-false}
+use Rattle.laws.specs.Prelude.{not-true}
 use Rattle.rules.specs.Limits.{mostInputs}
 use Rattle.rules.specs.Groups.Groups.{size}
 use Rattle.rules.specs.Groups.Marks.{markIn}

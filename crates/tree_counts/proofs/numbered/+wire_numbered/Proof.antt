@@ -1,11 +1,5 @@
 -- `tree_counts::numbered::wire_numbered` meets its contract. The measure is the group's number: both parts of a split are below it. Assumes nothing.
-use Prim.Native.Nat.{ℕ, _+_, _-_, _≤_, _<_}
-use mathlib.Core.Path.{_≡_, sym, _∙_, subst}
-use mathlib.Core.Logic.{_≢_}
-use mathlib.Core.List.{List}
-use native.Mathlib.Omega.{arith}
-use borrow.Author.Tests.{eqb-true, eqb-false}
-use lib.ListN.{length}
+use Rattle.laws.specs.Prelude.{ℕ, _<_, _≤_, _+_, _-_, _≡_, _∙_, sym, subst, _≢_, List, arith, length, eqb-true, eqb-false}
 use Rattle.rules.specs.Groups.Groups.{size}
 use Rattle.rules.specs.Nets.Wirings.{firstInput}
 use Rattle.trees.specs.Groups.Members.{size-one}

@@ -1,6 +1,5 @@
 -- `tree_counts::numbered::known_split` meets its contract: a product of recorded counts that is not 0 is the split's count. Assumes nothing.
-use mathlib.Core.Path.{_∙_}
-use borrow.Author.Needs.{needs}
+use Rattle.laws.specs.Prelude.{_∙_, needs}
 use Rattle.tree_counts.specs.Counts.{product-fits, product-split}
 use Rattle.tree_counts.proofs.numbered.known_split.Statement.{statement}
 use Rattle.tree_counts.proofs.numbered.known_split.Tie as tie

@@ -1,10 +1,6 @@
 -- `tree_counts::numbered::numbered_split` meets its contract. The loop's invariant: the recorded counts are right, and among the remaining splits the
 -- rest of the number falls where the number falls among all. Assumes nothing.
-use Prim.Native.Nat.{ℕ, _+_, _-_, _^_, _<_}
-use mathlib.Core.Path.{_≡_, refl, _∙_}
-use mathlib.Core.List.{List}
-use native.Mathlib.Omega.{arith}
-use lib.ListN.{length}
+use Rattle.laws.specs.Prelude.{ℕ, _<_, _+_, _-_, _^_, _≡_, _∙_, refl, List, arith, length}
 use Rattle.rules.specs.Limits.{mostInputs}
 use Rattle.rules.specs.Nets.Wirings.{firstInput}
 use Rattle.tree_counts.specs.Counts.{CountsKnown, Countable, Splittable}
@@ -126,7 +122,6 @@ returns-2 c =
 
 pub numbered-split-spec : {M : Type 1} → statement M
 numbered-split-spec =
-    tie.close
-    (tie.spec Inv-loop μ-loop (λ c κs. c .before .before .pre .0 .some) (λ c. omega (arith, is-rest c mostInputs (group c .below)))
-    loop-holds (λ c. omega (arith, here (c .before) .less, here (c .before) .group .below)) (λ c κs. here (c .before)) add-t14 same-length
-    returns next-part-requires loop-less loop-again same-length-2 returns-2)
+    tie.close (tie.spec Inv-loop μ-loop (λ c κs. c .before .before .pre .0 .some) (λ c. omega (arith, is-rest c mostInputs (group c .below))) loop-holds
+    (λ c. omega (arith, here (c .before) .less, here (c .before) .group .below)) (λ c κs. here (c .before)) add-t14 same-length returns next-part-requires
+    loop-less loop-again same-length-2 returns-2)

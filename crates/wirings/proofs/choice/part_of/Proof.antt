@@ -1,6 +1,5 @@
 -- `wirings::choice::part_of` meets its contract: each choice has its own search. Assumes nothing.
-use mathlib.Core.Path.{subst}
-use borrow.Author.Needs.{needs}
+use Rattle.laws.specs.Prelude.{subst, needs}
 use Rattle.wirings.specs.declared.choice.Choice.{Choice}
 use Rattle.wirings.specs.Choice.{LayersRoom}
 use Rattle.wirings.proofs.choice.part_of.Statement.{statement}
@@ -27,5 +26,4 @@ returns-2 c n g< = rw (c .before .enum-told2 .given .1) (c .shallow-split .ensur
 
 pub part-of-spec : {M : Type 1} → statement M
 part-of-spec =
-    tie.close
-    (tie.spec enum-told (λ c κs. search needs) (λ c. search needs) shallow-split-requires returns returns-2)
+    tie.close (tie.spec enum-told (λ c κs. search needs) (λ c. search needs) shallow-split-requires returns returns-2)

@@ -1,13 +1,6 @@
 -- `wirings::choose::wire_group` meets its contract. The measure is the group's number: both parts of a split are below it. Assumes
 -- nothing.
-use Prim.Native.Nat.{ℕ, _+_, _-_, _≤_, _<_}
-use mathlib.Core.Path.{_≡_, sym, _∙_, subst}
-use mathlib.Core.Logic.{_≢_}
-use mathlib.Core.List.{List}
-use native.Mathlib.Nat.{lt-of-lt-of-le}
-use native.Mathlib.Omega.{arith}
-use borrow.Author.Tests.{eqb-true, eqb-false}
-use lib.Pow.{pow-mono}
+use Rattle.laws.specs.Prelude.{ℕ, _<_, _≤_, _+_, _-_, _≡_, _∙_, sym, subst, _≢_, List, lt-of-lt-of-le, arith, eqb-true, eqb-false, pow-mono}
 use Rattle.rules.specs.Groups.Groups.{size}
 use Rattle.rules.specs.Nets.Wirings.{firstInput}
 use Rattle.trees.specs.Groups.Members.{size-one}

@@ -1,10 +1,5 @@
 -- `wirings::fewest_layers::fewer_by` meets its contract: one test after the other. Assumes nothing.
-use Prim.Native.Nat.{_<_}
-use mathlib.Core.Path.{refl, sym, _∙_}
-use mathlib.Core.Logic.{inl, inr}
-use mathlib.Core.Bool.{true≢false}
-use native.Mathlib.Omega.{arith}
-use borrow.Author.Needs.{needs}
+use Rattle.laws.specs.Prelude.{_<_, _∙_, sym, refl, inl, inr, true≢false, arith, needs}
 use Rattle.rules.specs.Nets.Shallow.{splitLayers}
 use Rattle.wirings.proofs.fewest_layers.fewer_by.Statement.{statement}
 use Rattle.wirings.proofs.fewest_layers.fewer_by.Tie as tie
@@ -54,5 +49,4 @@ returns-4 c =
 
 pub fewer-by-spec : {M : Type 1} → statement M
 fewer-by-spec =
-    tie.close
-    (tie.spec (λ c κs. search needs) (λ c κs. search needs) returns returns-2 returns-3 returns-4)
+    tie.close (tie.spec (λ c κs. search needs) (λ c κs. search needs) returns returns-2 returns-3 returns-4)

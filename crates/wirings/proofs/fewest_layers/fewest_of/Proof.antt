@@ -1,6 +1,5 @@
 -- `wirings::fewest_layers::fewest_of` meets its contract. The loop's invariant: `least` is the least over the parts passed. Assumes nothing.
-use Prim.Native.Nat.{ℕ, _+_, _-_, _<_}
-use native.Mathlib.Omega.{arith}
+use Rattle.laws.specs.Prelude.{ℕ, _<_, _+_, _-_, arith}
 use Rattle.radix.specs.Widths.{mostMembers}
 use Rattle.marks.specs.FirstParts.{part-at}
 use Rattle.wirings.proofs.Scanning.{Scanned, reached, scanned-none, scanned-next, scanned-floor, scanned-all}

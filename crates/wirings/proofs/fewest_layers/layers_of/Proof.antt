@@ -1,6 +1,5 @@
 -- `wirings::fewest_layers::layers_of` meets its contract. Assumes nothing.
-use mathlib.Core.Path.{sym, _∙_}
-use borrow.Author.Needs.{needs}
+use Rattle.laws.specs.Prelude.{_∙_, sym, needs}
 use Rattle.wirings.specs.FewestLayers.{layers-empty, layers-other, layers-two}
 use Rattle.wirings.proofs.fewest_layers.layers_of.Statement.{statement}
 use Rattle.wirings.proofs.fewest_layers.layers_of.Tie as tie

@@ -1,8 +1,5 @@
 -- `wirings::fewest_layers::split_layers` meets its contract: one more than the deeper of the two. Assumes nothing.
-use Prim.Native.Nat.{_-_, _<_}
-use native.Mathlib.Omega.{arith}
-use lib.ListN.{getD}
-use borrow.Author.Needs.{needs}
+use Rattle.laws.specs.Prelude.{_<_, _-_, arith, getD, needs}
 use Rattle.rules.specs.Nets.Shallow.{splitLayers}
 use Rattle.wirings.proofs.fewest_layers.split_layers.Statement.{statement}
 use Rattle.wirings.proofs.fewest_layers.split_layers.Tie as tie
@@ -27,6 +24,5 @@ returns-2 c = omega arith
 
 pub split-layers-spec : {M : Type 1} → statement M
 split-layers-spec =
-    tie.close (tie.spec (λ c. search needs) (λ c. omega (arith, c .shared-slice-known .given (c .before .args .a))) (λ c. search needs)
-    (λ c. search needs) cast-right (λ c. omega (arith, right-small (c .before))) returns
-    (λ c. omega (arith, left-small (c .before .before))) returns-2)
+    tie.close (tie.spec (λ c. search needs) (λ c. omega (arith, c .shared-slice-known .given (c .before .args .a))) (λ c. search needs) (λ c. search needs)
+    cast-right (λ c. omega (arith, right-small (c .before))) returns (λ c. omega (arith, left-small (c .before .before))) returns-2)

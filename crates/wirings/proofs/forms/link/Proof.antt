@@ -1,9 +1,5 @@
 -- `wirings::forms::link` meets its contract: one more gate is added. Assumes nothing.
-use Prim.Native.Nat.{_-_}
-use mathlib.Core.Path.{_≡_}
-use native.Mathlib.Omega.{arith}
-use borrow.Author.Needs.{needs}
-use lib.ListN.{length}
+use Rattle.laws.specs.Prelude.{_-_, _≡_, arith, length, needs}
 use Rattle.rules.specs.Limits.{mostInputs}
 use Rattle.wirings.specs.Links.{linked}
 use Rattle.wirings.proofs.forms.link.Statement.{statement}

@@ -1,7 +1,5 @@
 -- `wirings::shallow_split::keeps` meets its contract: one test after the other. Assumes nothing.
-use mathlib.Core.Path.{sym, _∙_}
-use native.Mathlib.Omega.{arith}
-use borrow.Author.Needs.{needs}
+use Rattle.laws.specs.Prelude.{_∙_, sym, arith, needs}
 use Rattle.wirings.proofs.shallow_split.keeps.Statement.{statement}
 use Rattle.wirings.proofs.shallow_split.keeps.Tie as tie
 

@@ -1,8 +1,6 @@
 -- `wirings::shallow_split::shallow_split` meets its contract. The loop's invariant: the search from the current part on gives the same result.
 -- Assumes nothing.
-use Prim.Native.Nat.{_+_, _-_, _<_}
-use mathlib.Core.Path.{sym, _∙_}
-use native.Mathlib.Omega.{arith}
+use Rattle.laws.specs.Prelude.{_<_, _+_, _-_, _∙_, sym, arith}
 use Rattle.rules.specs.Nets.Shallow.{shallowSplit}
 use Rattle.radix.specs.Widths.{mostMembers}
 use Rattle.marks.specs.Searching.{Sought, sought-none, sought-all, part-looked-at, sought-found, sought-next}

@@ -13,13 +13,15 @@ returns : tie.Need-returns
 unfolding arrivalLine fromFrom fromTo space
 returns c =
     let told = c .before .before in
-    line-back nothing (field (nextName _) spaceByte) (λ _. fromFrom) _ _ _ (told .before .before .next-name .ensures) _ _ (c .turned .result) (told .number .given .1) (c .turned .ensures)
+    line-back nothing (field (nextName _) spaceByte) (λ _. fromFrom) _ _ _ (told .before .before .next-name .ensures) _ _ (c .turned .result)
+    (told .number .given .1) (c .turned .ensures)
 
 returns-2 : tie.Need-returns-2
 unfolding arrivalLine fromFrom fromTo space
 returns-2 c =
     let told = c .before .before in
-    line-on nothing (field (nextName _) spaceByte) (λ _. fromFrom) _ _ _ (told .before .before .next-name .ensures) _ _ (c .from-from .result) (told .next .given .1) (c .from-from .ensures)
+    line-on nothing (field (nextName _) spaceByte) (λ _. fromFrom) _ _ _ (told .before .before .next-name .ensures) _ _ (c .from-from .result)
+    (told .next .given .1) (c .from-from .ensures)
 
 pub arrival-line-spec : {M : Type 1} → statement M
 arrival-line-spec =

@@ -1,11 +1,6 @@
 -- `arrivals::sheet::lines::arrival_lines` meets its contract. The loop's invariant: the lines from here are the lines from the start.
 -- Assumes nothing.
-use Prim.Native.Nat.{_-_, _≤_, _<_}
-use mathlib.Core.Path.{_≡_, sym, _∙_}
-use mathlib.Core.List.{[]}
-use native.Mathlib.Omega.{arith}
-use borrow.Author.Needs.{needs}
-use lib.ListN.{length, getD}
+use Rattle.laws.specs.Prelude.{_<_, _≤_, _-_, _≡_, _∙_, sym, [], arith, length, getD, needs}
 use Rattle.rules.specs.Limits.{mostInputs, mostTime}
 use Rattle.nets.specs.Forms.{namesIn, names-count}
 use Rattle.laws.specs.Numbers.Sizes.{sized}
@@ -56,7 +51,8 @@ returns : tie.Need-returns Inv-loop μ-loop
 returns c =
     let line = c .before .before in
     let turn = at-turn line in
-    arrival-lines-back _ _ _ _ _ _ (at-loop turn .loop .inv) (more turn) _ (name-is (line .before)) (line .arrival-line .result) (line .arrival-line .ensures) _ _ (c .enum-told .given .1)
+    arrival-lines-back _ _ _ _ _ _ (at-loop turn .loop .inv) (more turn) _ (name-is (line .before)) (line .arrival-line .result)
+    (line .arrival-line .ensures) _ _ (c .enum-told .given .1)
 
 -- the line's times are in order and within the bound
 bounds : (c : tie.After-struct-known2 Inv-loop μ-loop) → let r = at-line c .arrival-line .result in (r .from ≤ r .to) × (r .to ≤ mostTime)

@@ -20,12 +20,14 @@ returns : tie.Need-returns
 unfolding fromFrom space
 returns c =
     let told = c .before .before in
-    line-back itself (field (timeField 0) spaceByte) fromTo _ _ _ (told .before .before .time-field .ensures) _ _ (c .turned .result) (told .number .given .1) (c .turned .ensures)
+    line-back itself (field (timeField 0) spaceByte) fromTo _ _ _ (told .before .before .time-field .ensures) _ _ (c .turned .result) (told .number .given .1)
+    (c .turned .ensures)
 
 returns-2 : tie.Need-returns-2
 unfolding fromFrom space
 returns-2 c =
-    line-on itself (field (timeField 0) spaceByte) fromTo _ _ _ (at-time (c .before) .time-field .ensures) _ _ (c .from-to .result) (c .before .before .value .given .1) (c .from-to .ensures)
+    line-on itself (field (timeField 0) spaceByte) fromTo _ _ _ (at-time (c .before) .time-field .ensures) _ _ (c .from-to .result)
+    (c .before .before .value .given .1) (c .from-to .ensures)
 
 pub from-from-spec : {M : Type 1} → statement M
 from-from-spec =

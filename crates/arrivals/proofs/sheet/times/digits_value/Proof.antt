@@ -1,8 +1,6 @@
 -- `arrivals::sheet::times::digits_value` meets its contract. The loop's invariant: the digits so far write `value`.
 -- Assumes nothing.
-use Prim.Native.Nat.{_-_, _≤_}
-use native.Mathlib.Omega.{arith}
-use lib.ListN.{length}
+use Rattle.laws.specs.Prelude.{_≤_, _-_, arith, length}
 use Rattle.arrivals.specs.Sheet.Times.{ArrivalCounted, count-start, count-room, count-end, count-stop, count-next, below-digits, above-digits}
 use Rattle.arrivals.proofs.sheet.times.digits_value.Statement.{statement}
 use Rattle.arrivals.proofs.sheet.times.digits_value.Tie as tie

@@ -1,7 +1,6 @@
 -- `arrivals::sheet::times::is_lead` meets its contract: the tests that led to each return.
 -- Assumes nothing.
-use borrow.Author.Needs.{needs}
-use borrow.Author.Tests.{eq-eqb, ne-eqb, le-leb, lt-leb}
+use Rattle.laws.specs.Prelude.{eq-eqb, ne-eqb, le-leb, lt-leb, needs}
 use Rattle.arrivals.specs.Sheet.Times.{leads}
 use Rattle.arrivals.proofs.sheet.times.is_lead.Statement.{statement}
 use Rattle.arrivals.proofs.sheet.times.is_lead.Tie as tie

@@ -1,8 +1,6 @@
 -- `arrivals::sheet::times::judge_time` meets its contract, by the tests and the value of the digits.
 -- Assumes nothing.
-use mathlib.Core.Path.{sym, ap, _∙_}
-use borrow.Author.Needs.{needs}
-use borrow.Author.Tests.{not-true, not-false}
+use Rattle.laws.specs.Prelude.{_∙_, sym, ap, not-true, not-false, needs}
 use Rattle.fields.specs.Steps.{optionOf}
 use Rattle.arrivals.specs.Sheet.Times.{leads-short, time-lead, time-digits, time-over, time-low, time-good}
 use Rattle.arrivals.proofs.sheet.times.judge_time.Statement.{statement}

@@ -7,7 +7,8 @@ use Rattle.arrivals.proofs.sheet.times.time_field.Statement.{statement}
 use Rattle.arrivals.proofs.sheet.times.time_field.Tie as tie
 
 returns : tie.Need-returns
-returns c = field-judged itself _ _ _ _ _ _ (c .after-field .result) (c .before .before .field-at .ensures) (c .before .judge-time .ensures) (c .after-field .ensures)
+returns c =
+    field-judged itself _ _ _ _ _ _ (c .after-field .result) (c .before .before .field-at .ensures) (c .before .judge-time .ensures) (c .after-field .ensures)
 
 pub time-field-spec : {M : Type 1} → statement M
 time-field-spec =

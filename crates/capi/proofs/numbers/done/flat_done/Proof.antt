@@ -1,9 +1,8 @@
 -- `capi::numbers::done::flat_done` meets its contract, in each arm. Assumes nothing.
-use mathlib.Core.Path.{sym, ap}
+use Rattle.laws.specs.Prelude.{sym, ap, needs}
 use Rattle.answers.specs.declared.outcome.Outcome.{Outcome}
 use Rattle.answers.specs.AnswerMaps.{outcomeAs}
 use Rattle.capi.specs.Numbers.Done.{flatDone}
-use borrow.Author.Needs.{needs}
 use Rattle.capi.proofs.numbers.done.flat_done.Statement.{statement}
 use Rattle.capi.proofs.numbers.done.flat_done.Tie as tie
 

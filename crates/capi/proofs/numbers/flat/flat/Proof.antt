@@ -1,9 +1,8 @@
 -- `capi::numbers::flat::flat` meets its contract, in each arm. Assumes nothing.
-use mathlib.Core.Path.{sym, ap}
+use Rattle.laws.specs.Prelude.{sym, ap, needs}
 use Rattle.answers.specs.declared.answer.Answer.{Answer}
 use Rattle.answers.specs.AnswerMaps.{answerOf}
 use Rattle.capi.specs.Numbers.Flat.{flatOf}
-use borrow.Author.Needs.{needs}
 use Rattle.capi.proofs.numbers.flat.flat.Statement.{statement}
 use Rattle.capi.proofs.numbers.flat.flat.Tie as tie
 

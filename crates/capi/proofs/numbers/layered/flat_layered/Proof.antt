@@ -1,9 +1,8 @@
 -- `capi::numbers::layered::flat_layered` meets its contract, in each arm. Assumes nothing.
-use mathlib.Core.Path.{sym, ap}
+use Rattle.laws.specs.Prelude.{sym, ap, needs}
 use Rattle.answers.specs.declared.layered.Layered.{Layered}
 use Rattle.answers.specs.Layered.{layeredOf}
 use Rattle.capi.specs.Numbers.Layered.{flatLayered}
-use borrow.Author.Needs.{needs}
 use Rattle.capi.proofs.numbers.layered.flat_layered.Statement.{statement}
 use Rattle.capi.proofs.numbers.layered.flat_layered.Tie as tie
 

@@ -1,9 +1,8 @@
 -- `capi::numbers::opened::flat_opened` meets its contract, in each arm. Assumes nothing.
-use mathlib.Core.Path.{sym, ap}
+use Rattle.laws.specs.Prelude.{sym, ap, needs}
 use Rattle.net_sheets.specs.declared.lister.calls.Opened.{Opened}
 use Rattle.net_sheets.specs.Lister.Calls.{openedAs}
 use Rattle.capi.specs.Numbers.Flat.{flatOf}
-use borrow.Author.Needs.{needs}
 use Rattle.capi.proofs.numbers.opened.flat_opened.Statement.{statement}
 use Rattle.capi.proofs.numbers.opened.flat_opened.Tie as tie
 

@@ -1,9 +1,8 @@
 -- `capi::numbers::reached::flat_reached` meets its contract, in each arm. Assumes nothing.
-use mathlib.Core.Path.{sym, ap}
+use Rattle.laws.specs.Prelude.{sym, ap, needs}
 use Rattle.jobs.specs.declared.asking.Reached.{Reached}
 use Rattle.jobs.specs.Asking.{reachedAs}
 use Rattle.capi.specs.Numbers.Reached.{flatReached}
-use borrow.Author.Needs.{needs}
 use Rattle.capi.proofs.numbers.reached.flat_reached.Statement.{statement}
 use Rattle.capi.proofs.numbers.reached.flat_reached.Tie as tie
 

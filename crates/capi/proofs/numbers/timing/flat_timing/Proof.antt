@@ -1,6 +1,5 @@
 -- `capi::numbers::timing::flat_timing` meets its contract, in each arm. Assumes nothing.
-use mathlib.Core.Path.{_≡_, sym, ap, _∙_}
-use borrow.Author.Needs.{needs}
+use Rattle.laws.specs.Prelude.{_≡_, _∙_, sym, ap, needs}
 use Rattle.arrivals.specs.declared.call.Timing.{Timing}
 use Rattle.arrivals.specs.ArrivalAnswers.{timingAs}
 use Rattle.capi.specs.Numbers.Timing.{flatTiming}
@@ -22,6 +21,4 @@ returns-3 c = c .flat-refused2 .ensures ∙ by _ _ (c .before .before .timing3 .
 
 pub flat-timing-spec : {M : Type 1} → statement M
 flat-timing-spec =
-    tie.close
-    (tie.spec (λ c. search needs) (λ c. search needs) (λ c κs. search needs) (λ c. search needs) (λ c κs. search needs) returns returns-2
-    returns-3)
+    tie.close (tie.spec (λ c. search needs) (λ c. search needs) (λ c κs. search needs) (λ c. search needs) (λ c κs. search needs) returns returns-2 returns-3)

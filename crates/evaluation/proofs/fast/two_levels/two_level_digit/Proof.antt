@@ -1,7 +1,5 @@
 -- `evaluation::fast::two_levels::two_level_digit` meets its contract, by the four pairs of levels. Assumes nothing.
-use Prim.Native.Nat.{_+_, _*_}
-use mathlib.Core.Path.{_≡_}
-use native.Mathlib.Omega.{arith}
+use Rattle.laws.specs.Prelude.{_+_, _*_, _≡_, arith}
 use Rattle.evaluation.proofs.fast.two_levels.two_level_digit.Statement.{statement}
 use Rattle.evaluation.proofs.fast.two_levels.two_level_digit.Tie as tie
 

@@ -24,15 +24,18 @@ name-fields-requires c κs = inputs-on _ _ (at-start (at-inputs c) .args .at) _ 
 returns : tie.Need-returns
 unfolding fromInputs newline
 returns c =
-    rest-back itself (fieldIn _ (inputsField _) newlineByte) (fromNames _ _ _) _ _ _ (c .before .before .before .before .inputs-field .ensures) _ _ (c .turned .result)
+    rest-back itself (fieldIn _ (inputsField _) newlineByte) (fromNames _ _ _) _ _ _ (c .before .before .before .before .inputs-field .ensures) _ _
+    (c .turned .result)
     (c .before .before .number .given .1) (c .turned .ensures)
 
 returns-2 : tie.Need-returns-2
 unfolding fromInputs newline
 returns-2 c =
-    let told = inputs-on _ _ (at-start (at-inputs (c .before)) .args .at) _ _ (c .before .before .value .given .1) _ _ _ (at-inputs (c .before) .inputs-field .ensures) in
+    let told = inputs-on _ _ (at-start (at-inputs (c .before)) .args .at) _ _ (c .before .before .value .given .1) _ _ _
+    (at-inputs (c .before) .inputs-field .ensures) in
     rest-on itself (fieldIn _ (inputsField _) newlineByte) (fromNames _ _ _) _ _ _ (at-inputs (c .before) .inputs-field .ensures) _ _ (c .name-fields .result)
-    (c .before .before .value .given .1) (from-names _ _ _ _ _ _ _ (c .name-fields .ensures) (at-start (at-inputs (c .before)) .pre) (told .0) (told .1) (told .2))
+    (c .before .before .value .given .1) (from-names _ _ _ _ _ _ _ (c .name-fields .ensures) (at-start (at-inputs (c .before)) .pre) (told .0) (told .1)
+    (told .2))
 
 pub from-inputs-spec : {M : Type 1} → statement M
 from-inputs-spec =

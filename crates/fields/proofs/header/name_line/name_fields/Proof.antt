@@ -1,9 +1,6 @@
 -- `fields::header::name_line::name_fields` meets its contract. The loop's invariant: the names from here are the names from the start.
 -- Assumes nothing.
-use Prim.Native.Nat.{_-_}
-use mathlib.Core.Path.{sym, subst}
-use borrow.Author.Needs.{needs}
-use native.Mathlib.Omega.{arith}
+use Rattle.laws.specs.Prelude.{_-_, sym, subst, arith, needs}
 use Rattle.fields.specs.Steps.{layoutOf}
 use Rattle.fields.specs.Header.NameLine.{Reading, names-start, names-done, names-back, names-next}
 use Rattle.fields.proofs.header.name_line.name_fields.Statement.{statement}
@@ -28,14 +25,16 @@ at-name c = c .before .before .before
 loop-holds : tie.Need-loop-holds Inv-loop μ-loop
 loop-holds c =
     let a = c .before .before .args in
-    subst (λ header. Reading (layoutOf (a .layout)) (a .s .now) (a .at) (a .levels) (a .inputs) (a .last) header (a .at) 0) (sym (c .no-names .ensures)) (names-start _ _ _ _ _ _)
+    subst (λ header. Reading (layoutOf (a .layout)) (a .s .now) (a .at) (a .levels) (a .inputs) (a .last) header (a .at) 0) (sym (c .no-names .ensures))
+    (names-start _ _ _ _ _ _)
 
 name-field-requires : tie.Need-name-field-requires Inv-loop μ-loop
 name-field-requires c κs = (omega (arith, c .before .before .loop .inv .most, at-start (c .before) .pre), c .before .before .loop .inv .held)
 
 returns : tie.Need-returns Inv-loop μ-loop
 returns c =
-    names-back _ _ _ _ _ _ _ _ _ (at-turn (c .before .before) .before .loop .inv) _ _ (at-turn (c .before .before) .loop-test .taken) (c .before .before .before .due-after .ensures) (c .before .before .name-field .ensures) _ _
+    names-back _ _ _ _ _ _ _ _ _ (at-turn (c .before .before) .before .loop .inv) _ _ (at-turn (c .before .before) .loop-test .taken)
+    (c .before .before .before .due-after .ensures) (c .before .before .name-field .ensures) _ _
     (c .enum-told .given .1)
 
 mul-header : tie.Need-mul-header Inv-loop μ-loop
@@ -55,7 +54,8 @@ add-i c = omega (arith, at-turn (at-name c) .loop-test .taken, at-start (at-turn
 
 loop-again : tie.Need-loop-again Inv-loop μ-loop
 loop-again c =
-    names-next _ _ _ _ _ _ _ _ _ (at-turn (at-name c) .before .loop .inv) _ _ (at-turn (at-name c) .loop-test .taken) (at-name c .before .due-after .ensures) (at-name c .name-field .ensures) _ _
+    names-next _ _ _ _ _ _ _ _ _ (at-turn (at-name c) .before .loop .inv) _ _ (at-turn (at-name c) .loop-test .taken) (at-name c .before .due-after .ensures)
+    (at-name c .name-field .ensures) _ _
     (at-start (at-turn (at-name c)) .pre) (c .before .step .given .1)
 
 returns-2 : tie.Need-returns-2 Inv-loop μ-loop
@@ -63,7 +63,6 @@ returns-2 c = names-done _ _ _ _ _ _ _ _ _ (c .before .loop .inv) (c .loop-test 
 
 pub name-fields-spec : {M : Type 1} → statement M
 name-fields-spec =
-    tie.close
-    (tie.spec Inv-loop μ-loop (λ c κs. tt) loop-holds (λ c κs. c .loop-test .taken) name-field-requires (λ c. search needs) returns
-    (λ c. search needs) mul-header element-write-header cast-header element-write-header-2 add-i
-    (λ c. omega (arith, at-turn (at-name c) .loop-test .taken)) loop-again returns-2)
+    tie.close (tie.spec Inv-loop μ-loop (λ c κs. tt) loop-holds (λ c κs. c .loop-test .taken) name-field-requires (λ c. search needs) returns
+    (λ c. search needs) mul-header element-write-header cast-header element-write-header-2 add-i (λ c. omega (arith, at-turn (at-name c) .loop-test .taken))
+    loop-again returns-2)

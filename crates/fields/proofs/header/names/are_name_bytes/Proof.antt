@@ -1,10 +1,6 @@
 -- `fields::header::names::are_name_bytes` meets its contract. The loop's invariant: all pass exactly when the rest does.
 -- Assumes nothing.
-use Prim.Native.Nat.{_-_}
-use mathlib.Core.Path.{_≡_, refl, sym, _∙_}
-use native.Mathlib.Omega.{arith}
-use borrow.Author.Tests.{not-true, not-false}
-use lib.ListN.{length, drop}
+use Rattle.laws.specs.Prelude.{_-_, _≡_, _∙_, sym, refl, arith, length, drop, not-true, not-false}
 use Rattle.rules.specs.Lists.{all}
 use Rattle.laws.specs.Lists.Walks.{all-next, all-stop, all-end}
 use Rattle.fields.specs.Header.Names.{isNameByte}
@@ -21,10 +17,12 @@ loop-holds : tie.Need-loop-holds Inv-loop μ-loop
 loop-holds c = refl
 
 returns : tie.Need-returns Inv-loop μ-loop
-returns c = sym (all-stop _ _ (c .before .before .before .before .loop .i) (c .before .before .before .loop-test .taken) (sym (c .before .is-name-byte .ensures) ∙ not-true _ (c .if1 .taken))) ∙ c .before .before .before .before .loop .inv
+returns c = sym (all-stop _ _ (c .before .before .before .before .loop .i) (c .before .before .before .loop-test .taken)
+    (sym (c .before .is-name-byte .ensures) ∙ not-true _ (c .if1 .taken))) ∙ c .before .before .before .before .loop .inv
 
 loop-again : tie.Need-loop-again Inv-loop μ-loop
-loop-again c = all-next _ _ (c .before .before .before .before .loop .i) (c .before .before .before .loop-test .taken) (sym (c .before .is-name-byte .ensures) ∙ not-false _ (c .if1 .left)) ∙ c .before .before .before .before .loop .inv
+loop-again c = all-next _ _ (c .before .before .before .before .loop .i) (c .before .before .before .loop-test .taken)
+    (sym (c .before .is-name-byte .ensures) ∙ not-false _ (c .if1 .left)) ∙ c .before .before .before .before .loop .inv
 
 returns-2 : tie.Need-returns-2 Inv-loop μ-loop
 returns-2 c = sym (all-end _ _ (c .before .loop .i) (c .loop-test .left)) ∙ c .before .loop .inv

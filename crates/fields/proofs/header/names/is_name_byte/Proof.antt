@@ -1,7 +1,6 @@
 -- `fields::header::names::is_name_byte` meets its contract.
 -- Assumes nothing.
-use borrow.Author.Needs.{needs}
-use mathlib.Core.Path.{sym, _∙_}
+use Rattle.laws.specs.Prelude.{_∙_, sym, needs}
 use Rattle.fields.specs.Header.Names.{digit-low, digit-high}
 use Rattle.fields.proofs.header.names.is_name_byte.Statement.{statement}
 use Rattle.fields.proofs.header.names.is_name_byte.Tie as tie

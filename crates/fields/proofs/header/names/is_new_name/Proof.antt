@@ -1,8 +1,6 @@
 -- `fields::header::names::is_new_name` meets its contract.
 -- Assumes nothing.
-use borrow.Author.Needs.{needs}
-use mathlib.Core.Path.{ap}
-use mathlib.Core.Bool.{not}
+use Rattle.laws.specs.Prelude.{ap, not, needs}
 use Rattle.fields.proofs.header.names.is_new_name.Statement.{statement}
 use Rattle.fields.proofs.header.names.is_new_name.Tie as tie
 

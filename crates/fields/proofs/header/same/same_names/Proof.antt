@@ -1,11 +1,6 @@
 -- `fields::header::same::same_names` meets its contract. The loop's invariant: all names are the same exactly when those from `i` on are.
 -- Assumes nothing.
-use Prim.Native.Nat.{_-_}
-use mathlib.Core.Path.{_≡_, sym, ap₂, _∙_}
-use mathlib.Core.List.{map}
-use native.Mathlib.Omega.{arith}
-use native.Mathlib.Nat.{sub-zero}
-use borrow.Author.Tests.{not-true, not-false}
+use Rattle.laws.specs.Prelude.{_-_, _≡_, _∙_, sym, ap₂, map, sub-zero, arith, not-true, not-false}
 use Rattle.rules.specs.Lists.{range, same}
 use Rattle.rules.specs.Calls.Checking.{sameNames}
 use Rattle.nets.specs.Forms.{nameIn}
@@ -52,6 +47,5 @@ returns-2 c = sym (c .before .loop .inv ∙ names-end _ _ (c .before .loop .i) _
 
 pub same-names-spec : {M : Type 1} → statement M
 same-names-spec =
-    tie.close
-    (tie.spec Inv-loop μ-loop loop-holds name-of-requires name-of-requires-2 (λ c κs. tt) returns (λ c. omega arith) (λ c. omega arith)
-    loop-again returns-2)
+    tie.close (tie.spec Inv-loop μ-loop loop-holds name-of-requires name-of-requires-2 (λ c κs. tt) returns (λ c. omega arith) (λ c. omega arith) loop-again
+    returns-2)

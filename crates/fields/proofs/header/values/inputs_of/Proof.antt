@@ -1,8 +1,6 @@
 -- `fields::header::values::inputs_of` meets its contract. The loop's invariant: the first match from `n` on is the first of all.
 -- Assumes nothing.
-use Prim.Native.Nat.{_+_, _-_, _≤_}
-use mathlib.Core.Path.{_≡_, refl, sym, _∙_}
-use native.Mathlib.Omega.{arith}
+use Rattle.laws.specs.Prelude.{_≤_, _+_, _-_, _≡_, _∙_, sym, refl, arith}
 use Rattle.rules.specs.Lists.{range, find, same}
 use Rattle.rules.specs.Limits.{mostInputs}
 use Rattle.rules.specs.Text.{decimal}
@@ -22,10 +20,15 @@ unfolding inputsOf
 loop-holds c = (refl, omega arith)
 
 returns : tie.Need-returns Inv-loop μ-loop
-returns c = sym (find-stop _ (c .before .before .before .loop .n) (mostInputs + 1) (omega arith) (sym (c .before .is-decimal .ensures) ∙ c .if1 .taken)) ∙ c .before .before .before .loop .inv .0
+returns c = sym (find-stop _ (c .before .before .before .loop .n) (mostInputs + 1) (omega arith) (sym (c .before .is-decimal .ensures) ∙ c .if1 .taken))
+    ∙ c .before .before .before .loop .inv .0
 
 loop-again : tie.Need-loop-again Inv-loop μ-loop
-loop-again c = (find-next _ (c .before .before .before .loop .n) (mostInputs + 1) (omega arith) (sym (c .before .is-decimal .ensures) ∙ c .if1 .left) ∙ c .before .before .before .loop .inv .0, omega arith)
+loop-again c = (
+  find-next _ (c .before .before .before .loop .n) (mostInputs + 1) (omega arith) (sym (c .before .is-decimal .ensures) ∙ c .if1 .left)
+      ∙ c .before .before .before .loop .inv .0,
+  omega arith,
+)
 
 returns-2 : tie.Need-returns-2 Inv-loop μ-loop
 returns-2 c = sym (find-end _ (c .before .loop .n) (mostInputs + 1) (omega arith)) ∙ c .before .loop .inv .0

@@ -1,7 +1,6 @@
 -- `fields::header::values::judge_levels` meets its contract, by the field's length and byte.
 -- Assumes nothing.
-use borrow.Author.Needs.{needs}
-use native.Mathlib.Omega.{arith}
+use Rattle.laws.specs.Prelude.{arith, needs}
 use Rattle.fields.specs.Header.Values.{levels-long, levels-low, levels-high, levels-good}
 use Rattle.fields.proofs.header.values.judge_levels.Statement.{statement}
 use Rattle.fields.proofs.header.values.judge_levels.Tie as tie
@@ -20,6 +19,5 @@ returns-4 c = levels-good _ (c .before .before .before .if1 .left) (c .before .i
 
 pub judge-levels-spec : {M : Type 1} → statement M
 judge-levels-spec =
-    tie.close
-    (tie.spec returns (λ c. search needs) (λ c. omega (arith, c .shared-slice-known .given 0)) (λ c. search needs) returns-2
-    (λ c. search needs) returns-3 (λ c. search needs) returns-4)
+    tie.close (tie.spec returns (λ c. search needs) (λ c. omega (arith, c .shared-slice-known .given 0)) (λ c. search needs) returns-2 (λ c. search needs)
+    returns-3 (λ c. search needs) returns-4)

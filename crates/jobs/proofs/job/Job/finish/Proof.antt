@@ -1,9 +1,6 @@
 -- `jobs::job::Job::finish` meets its contract: it finishes the job by its parts. Assumes nothing.
-use mathlib.Core.Path.{_≡_, refl, sym, _∙_}
-use native.Mathlib.Omega.{arith}
-use lib.ListN.{length, length-map}
+use Rattle.laws.specs.Prelude.{_≡_, _∙_, sym, refl, arith, length, length-map, needs}
 use Rattle.rules.specs.Limits.{mostCells}
-use borrow.Author.Needs.{needs}
 use Rattle.jobs.proofs.job.Job.finish.Statement.{statement}
 use Rattle.jobs.proofs.job.Job.finish.Tie as tie
 

@@ -1,9 +1,6 @@
 -- `jobs::job::Job::mark` meets its contract: it returns the answer of `mark_in` for its parts. Assumes nothing.
-use mathlib.Core.Path.{_≡_, refl, sym, _∙_}
-use native.Mathlib.Omega.{arith}
-use lib.ListN.{length, length-map}
+use Rattle.laws.specs.Prelude.{_≡_, _∙_, sym, refl, arith, length, length-map, needs}
 use Rattle.jobs.specs.Forms.{mostGroups}
-use borrow.Author.Needs.{needs}
 use Rattle.jobs.proofs.job.Job.mark.Statement.{statement}
 use Rattle.jobs.proofs.job.Job.mark.Tie as tie
 

@@ -1,12 +1,9 @@
 -- `jobs::job::Job::step` meets its contract: the job unchanged, or with the next group's mark. Assumes nothing.
-use mathlib.Core.Path.{_≡_, sym, _∙_, subst}
-use native.Mathlib.Omega.{arith}
-use lib.ListN.{length, length-map}
+use Rattle.laws.specs.Prelude.{_≡_, _∙_, sym, subst, arith, length, length-map, needs}
 use Rattle.rules.specs.Limits.{mostCells}
 use Rattle.jobs.specs.Forms.{mostGroups, jobIn, jobOf}
 use Rattle.jobs.specs.Stepping.{NextMark}
 use Rattle.jobs.specs.Calls.{stepped-done, stepped-on}
-use borrow.Author.Needs.{needs}
 use Rattle.jobs.proofs.job.Job.step.Statement.{statement}
 use Rattle.jobs.proofs.job.Job.step.Tie as tie
 
@@ -49,6 +46,5 @@ returns-2 c =
 
 pub step-spec : {M : Type 1} → statement M
 step-spec =
-    tie.close
-    (tie.spec (λ c. search needs) (λ c. search needs) (λ c. search needs) next-mark-requires enum-told (λ c. search needs) marked-requires
-    returns returns-2)
+    tie.close (tie.spec (λ c. search needs) (λ c. search needs) (λ c. search needs) next-mark-requires enum-told (λ c. search needs) marked-requires returns
+    returns-2)

@@ -1,8 +1,6 @@
 -- `loose_sheets::fast::frame::frame_of` meets its contract.
 -- Assumes nothing.
-use Prim.Native.Nat.{ℕ}
-use borrow.Author.Needs.{needs}
-use lib.ListN.{replicate, length-replicate}
+use Rattle.laws.specs.Prelude.{ℕ, replicate, length-replicate, needs}
 use Rattle.loose_sheets.specs.Fast.Frame.{mostLaid}
 use Rattle.loose_sheets.specs.Fast.Laying.{Unlaid, zeros}
 use Rattle.loose_sheets.proofs.fast.frame.frame_of.Statement.{statement}

@@ -1,9 +1,6 @@
 -- `loose_sheets::fast::frame::lay` meets its contract. The loop's invariant: j places are laid out, with i levels, and the others have no weight.
 -- Assumes nothing.
-use Prim.Native.Nat.{_+_, _-_, _^_, _≤_, _<_}
-use native.Mathlib.Nat.{pow-le-pow-right}
-use native.Mathlib.Omega.{arith}
-use borrow.Author.Needs.{needs}
+use Rattle.laws.specs.Prelude.{_<_, _≤_, _+_, _-_, _^_, pow-le-pow-right, arith, needs}
 use Rattle.rules.specs.Limits.{mostCells}
 use Rattle.laws.specs.Numbers.Sizes.{Size, sized}
 use Rattle.loose_sheets.specs.Fast.Frame.{mostLaid}
@@ -74,7 +71,8 @@ add-i c = omega (arith, fewer (c .before), size (at-level (c .before) .before) .
 loop-again-2 : tie.Need-loop-again-2 Inv-loop μ-loop
 loop-again-2 c =
     let turn = at-level (c .before) in
-    laying-level _ _ _ _ _ _ _ (turn .before .loop .inv) _ _ (omega (arith, size (turn .before) .levels-least)) (c .power .ensures) (fewer (c .before)) (low turn)
+    laying-level _ _ _ _ _ _ _ (turn .before .loop .inv) _ _ (omega (arith, size (turn .before) .levels-least)) (c .power .ensures) (fewer (c .before))
+    (low turn)
 
 returns-3 : tie.Need-returns-3 Inv-loop μ-loop
 returns-3 c = laying-none _ _ _ _ _ _ _ (c .before .loop .inv)

@@ -1,13 +1,6 @@
 -- `loose_sheets::fast::matching::bytes_fit` meets its contract. The loop's invariant: k bytes are compared, and are within bounds if `over` is 0.
 -- Assumes nothing.
-use Prim.Native.Nat.{_+_, _-_, _^_, _≤_, _<_}
-use mathlib.Core.Path.{_≡_, sym, _∙_}
-use mathlib.Core.Logic.{⊎-elim}
-use native.Mathlib.Nat.{add-assoc}
-use native.Mathlib.Omega.{arith}
-use borrow.Author.Needs.{needs}
-use borrow.Author.Tests.{eqb-true}
-use lib.ListN.{length}
+use Rattle.laws.specs.Prelude.{_<_, _≤_, _+_, _-_, _^_, _≡_, _∙_, sym, ⊎-elim, add-assoc, arith, length, eqb-true, needs}
 use Rattle.loose_sheets.specs.Fast.Matching.{Stand, stand-next}
 use Rattle.loose_sheets.proofs.fast.matching.bytes_fit.Statement.{statement}
 use Rattle.loose_sheets.proofs.fast.matching.bytes_fit.Tie as tie
@@ -59,7 +52,8 @@ loop-again c =
       λ none.
           ⊎-elim
           (λ w. absurd (omega (arith, none, w .1)))
-          (λ w. stand-next _ _ _ _ _ _ (head .loop .inv .1 (sym (w .1) ∙ none)) (record { above = sub .result; most = w .0 .left; is = rw (← add-assoc) (sub .ensures) }))
+          (λ w. stand-next _ _ _ _ _ _ (head .loop .inv .1 (sym (w .1) ∙ none))
+          (record { above = sub .result; most = w .0 .left; is = rw (← add-assoc) (sub .ensures) }))
           (c .if1 .came),
     )
 

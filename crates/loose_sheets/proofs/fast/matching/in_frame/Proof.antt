@@ -1,11 +1,6 @@
 -- `loose_sheets::fast::matching::in_frame` meets its contract: the bytes are inside the sheet, and are compared.
 -- Assumes nothing.
-use Prim.Native.Nat.{_+_, _<_}
-use mathlib.Core.Bool.{false≢true}
-use native.Mathlib.Omega.{arith}
-use lib.ListN.{length}
-use borrow.Author.Needs.{needs}
-use borrow.Author.Tests.{eqb-false, not-false, not-true}
+use Rattle.laws.specs.Prelude.{_<_, _+_, false≢true, arith, length, eqb-false, not-true, not-false, needs}
 use Rattle.loose_sheets.specs.Fast.Matching.{lookedAt, looked-bounds}
 use Rattle.loose_sheets.proofs.fast.matching.in_frame.Statement.{statement}
 use Rattle.loose_sheets.proofs.fast.matching.in_frame.Tie as tie

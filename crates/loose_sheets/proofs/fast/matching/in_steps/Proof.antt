@@ -1,7 +1,6 @@
 -- `loose_sheets::fast::matching::in_steps` meets its contract.
 -- Assumes nothing.
-use mathlib.Core.Path.{refl}
-use borrow.Author.Needs.{needs}
+use Rattle.laws.specs.Prelude.{refl, needs}
 use Rattle.loose_sheets.specs.Fast.Matching.{inSteps}
 use Rattle.loose_sheets.proofs.fast.matching.in_steps.Statement.{statement}
 use Rattle.loose_sheets.proofs.fast.matching.in_steps.Tie as tie

@@ -1,10 +1,6 @@
 -- `loose_sheets::fast::matching::row_fits` meets its contract: one part, or two.
 -- Assumes nothing.
-use Prim.Native.Nat.{_+_, _-_}
-use mathlib.Core.Path.{_≡_}
-use mathlib.Core.Bool.{false≢true}
-use native.Mathlib.Omega.{arith}
-use borrow.Author.Tests.{not-false}
+use Rattle.laws.specs.Prelude.{_+_, _-_, _≡_, false≢true, arith, not-false}
 use Rattle.loose_sheets.specs.Fast.Matching.{Stand, stand-both, lookedAt, looked-first, looked-bounds}
 use Rattle.loose_sheets.proofs.fast.matching.row_fits.Statement.{statement}
 use Rattle.loose_sheets.proofs.fast.matching.row_fits.Tie as tie

@@ -1,8 +1,6 @@
 -- `loose_sheets::fast::weighing::all_weighed` meets its contract: one part, or two.
 -- Assumes nothing.
-use Prim.Native.Nat.{_+_, _-_}
-use mathlib.Core.Path.{_≡_, sym, ap, _∙_}
-use native.Mathlib.Omega.{arith}
+use Rattle.laws.specs.Prelude.{_+_, _-_, _≡_, _∙_, sym, ap, arith}
 use Rattle.loose_sheets.specs.Fast.Matching.{lookedAt, looked-first, looked-bounds}
 use Rattle.loose_sheets.specs.Fast.Weighing.{counted, counted-none, counted-upto}
 use Rattle.loose_sheets.proofs.fast.weighing.all_weighed.Statement.{statement}

@@ -1,10 +1,6 @@
 -- `loose_sheets::fast::weighing::weighed` meets its contract. The loop's invariant: the sum is what k places add to the index.
 -- Assumes nothing.
-use Prim.Native.Nat.{ℕ, _+_, _-_, _*_, _%_, _^_, _≤_, _<_}
-use mathlib.Core.Path.{_≡_, refl}
-use native.Mathlib.Nat.{add-zero}
-use native.Mathlib.Omega.{arith}
-use lib.ListN.{length, getD}
+use Rattle.laws.specs.Prelude.{ℕ, _<_, _≤_, _+_, _-_, _^_, _*_, _%_, _≡_, refl, add-zero, arith, length, getD}
 use Rattle.loose_sheets.specs.Fast.Weighing.{counted, counted-below}
 use Rattle.loose_sheets.proofs.fast.weighing.weighed.Statement.{statement}
 use Rattle.loose_sheets.proofs.fast.weighing.weighed.Tie as tie
@@ -43,11 +39,14 @@ mul-sum c = record { fits = omega (arith, within (c .before) .0, small (c .befor
 abbrev taken : tie.In-loop Inv-loop μ-loop → ℕ
 taken c =
     let start = c .before .before in
-    getD (start .args .s .now) (start .args .at + start .args .from + c .before .loop .k) 0 % 16 * getD (start .args .weights .now) (start .args .from + c .before .loop .k) 0
+    getD (start .args .s .now) (start .args .at + start .args .from + c .before .loop .k) 0 % 16 * getD (start .args .weights .now)
+    (start .args .from + c .before .loop .k) 0
 
 sum-more : (c : tie.In-loop Inv-loop μ-loop)
-    → (counted (c .before .before .args .s .now) (c .before .before .args .at) (c .before .before .args .weights .now) (c .before .before .args .from) + (c .before .loop .sum + taken c)
-    ≡ counted (c .before .before .args .s .now) (c .before .before .args .at) (c .before .before .args .weights .now) (c .before .before .args .from + (c .before .loop .k + 1)))
+    → (counted (c .before .before .args .s .now) (c .before .before .args .at) (c .before .before .args .weights .now)
+    (c .before .before .args .from) + (c .before .loop .sum + taken c)
+    ≡ counted (c .before .before .args .s .now) (c .before .before .args .at) (c .before .before .args .weights .now)
+    (c .before .before .args .from + (c .before .loop .k + 1)))
     × (c .before .loop .sum + taken c < 65536)
 sum-more c = counted-below _ _ _ _ _ _ 65536 _ (c .before .loop .inv .1) (c .loop-test .taken) (c .before .before .pre .2)
 

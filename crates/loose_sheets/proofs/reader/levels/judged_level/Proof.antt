@@ -1,10 +1,9 @@
 -- `loose_sheets::reader::levels::judged_level` meets its contract: a judged field.
 -- Assumes nothing.
-use mathlib.Core.Path.{_∙_}
+use Rattle.laws.specs.Prelude.{_∙_, needs}
 use Rattle.fields.specs.Judging.{field-judged-in}
 use Rattle.fields.specs.Steps.{itself}
 use Rattle.loose_sheets.specs.Reader.Levels.{any-level}
-use borrow.Author.Needs.{needs}
 use Rattle.loose_sheets.proofs.reader.levels.judged_level.Statement.{statement}
 use Rattle.loose_sheets.proofs.reader.levels.judged_level.Tie as tie
 

@@ -1,8 +1,7 @@
 -- `loose_sheets::reader::levels::level_field` meets its contract: two bytes are recognised, or the field is judged.
 -- Assumes nothing.
-use native.Mathlib.Omega.{arith}
+use Rattle.laws.specs.Prelude.{arith, needs}
 use Rattle.loose_sheets.specs.Fast.Plain.{plain-level}
-use borrow.Author.Needs.{needs}
 use Rattle.loose_sheets.proofs.reader.levels.level_field.Statement.{statement}
 use Rattle.loose_sheets.proofs.reader.levels.level_field.Tie as tie
 
@@ -16,6 +15,5 @@ returns-2 c =
 
 pub level-field-spec : {M : Type 1} → statement M
 level-field-spec =
-    tie.close
-    (tie.spec (λ c κs. search needs) (λ c. search needs) (λ c κs. search needs) (λ c. search needs) add-spaces-end (λ c κs. search needs)
+    tie.close (tie.spec (λ c κs. search needs) (λ c. search needs) (λ c κs. search needs) (λ c. search needs) add-spaces-end (λ c κs. search needs)
     (λ c. search needs) returns-2)

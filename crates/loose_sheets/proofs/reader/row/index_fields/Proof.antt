@@ -1,8 +1,6 @@
 -- `loose_sheets::reader::row::index_fields` meets its contract: the row matches its frame, or its fields are judged.
 -- Assumes nothing.
-use native.Mathlib.Omega.{arith}
-use borrow.Author.Needs.{needs}
-use borrow.Author.Tests.{not-false}
+use Rattle.laws.specs.Prelude.{arith, not-false, needs}
 use Rattle.laws.specs.Numbers.Sizes.{Size, sized}
 use Rattle.loose_sheets.specs.Fast.Matching.{InFrame, looked-bounds}
 use Rattle.loose_sheets.specs.Fast.Framed.{framed-reads, framed-fits}

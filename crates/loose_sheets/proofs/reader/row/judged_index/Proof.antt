@@ -1,8 +1,6 @@
 -- `loose_sheets::reader::row::judged_index` meets its contract. The loop's invariant: the index from here is the index from the start.
 -- Assumes nothing.
-use Prim.Native.Nat.{_+_, _-_, _*_, _<_}
-use native.Mathlib.Omega.{arith}
-use borrow.Author.Needs.{needs}
+use Rattle.laws.specs.Prelude.{_<_, _+_, _-_, _*_, arith, needs}
 use Rattle.rules.specs.Limits.{mostCells}
 use Rattle.laws.specs.Numbers.Sizes.{Size, sized}
 use Rattle.loose_sheets.specs.Reader.Index.{InIndex, index-start, index-done, index-back, index-next, index-fits}
@@ -43,7 +41,12 @@ fits : (c : tie.After-known-told Inv-loop μ-loop)
 fits c =
     let turn = at-turn (at-level c) in
     let bounds = size (turn .before) in
-    omega (arith, bounds .cells-most, index-fits _ _ _ _ _ _ _ (turn .before .loop .inv) (turn .loop-test .taken) _ (at-level c .level-field .ensures) _ _ (c .before .step .given .1) (omega (arith, bounds .levels-least)))
+    omega (
+      arith,
+      bounds .cells-most,
+      index-fits _ _ _ _ _ _ _ (turn .before .loop .inv) (turn .loop-test .taken) _ (at-level c .level-field .ensures) _ _
+          (c .before .step .given .1) (omega (arith, bounds .levels-least)),
+    )
 
 loop-again : tie.Need-loop-again Inv-loop μ-loop
 loop-again c =

@@ -1,9 +1,8 @@
 -- `loose_sheets::reader::row::row` meets its contract: the index, the mark at it, and the ink.
 -- Assumes nothing.
-use native.Mathlib.Omega.{arith}
+use Rattle.laws.specs.Prelude.{arith, needs}
 use Rattle.laws.specs.Numbers.Sizes.{sized}
 use Rattle.loose_sheets.specs.Reader.Row.{loose-row-back, row-given, row-on}
-use borrow.Author.Needs.{needs}
 use Rattle.loose_sheets.proofs.reader.row.row.Statement.{statement}
 use Rattle.loose_sheets.proofs.reader.row.row.Tie as tie
 
@@ -26,7 +25,8 @@ returns-2 c = loose-row-back _ _ _ _ _ _ (c .before .before .before .index-field
 returns-3 : tie.Need-returns-3
 returns-3 c =
     let told = c .before .before in
-    row-on _ _ _ _ _ _ (at-index told .index-fields .ensures) _ _ (told .before .before .value .given .1) (c .row-ink .result) (c .before .if1 .left) (c .row-ink .ensures)
+    row-on _ _ _ _ _ _ (at-index told .index-fields .ensures) _ _ (told .before .before .value .given .1) (c .row-ink .result) (c .before .if1 .left)
+    (c .row-ink .ensures)
 
 pub row-spec : {M : Type 1} → statement M
 row-spec =

@@ -13,7 +13,8 @@ returns : tie.Need-returns
 returns c = ink-back _ (at-start (c .before .before .before) .args .at) _ _ _ (c .before .before .before .ink-field .ensures) _ _ (c .before .number .given .1)
 
 returns-2 : tie.Need-returns-2
-returns-2 c = loose-row-ink-on _ (at-start (c .before .before .before) .args .at) _ _ _ (c .before .before .before .ink-field .ensures) _ _ (c .before .value .given .1)
+returns-2 c =
+    loose-row-ink-on _ (at-start (c .before .before .before) .args .at) _ _ _ (c .before .before .before .ink-field .ensures) _ _ (c .before .value .given .1)
 
 pub row-ink-spec : {M : Type 1} → statement M
 row-ink-spec =

@@ -1,10 +1,6 @@
 -- `loose_sheets::reader::rows::rows` meets its contract. The loop's invariant: k rows are read, and the rows from here are the rows from the start.
 -- Assumes nothing.
-use Prim.Native.Nat.{ℕ, _-_, _^_, _≤_, _<_}
-use mathlib.Core.Path.{_≡_, refl, sym}
-use native.Mathlib.Omega.{arith}
-use borrow.Author.Needs.{needs}
-use lib.ListN.{length, length-set, length-replicate}
+use Rattle.laws.specs.Prelude.{ℕ, _<_, _≤_, _-_, _^_, _≡_, sym, refl, arith, length, length-set, length-replicate, needs}
 use Rattle.rules.specs.Limits.{mostCells}
 use Rattle.laws.specs.Numbers.Sizes.{Size, sized}
 use Rattle.loose_sheets.specs.Fast.Frame.{Framed}
@@ -52,7 +48,8 @@ abbrev at-frame : tie.At-loop Inv-loop μ-loop → tie.After-frame-of Inv-loop �
 at-frame c = c .before .before .before .before
 
 frame : (c : tie.At-loop Inv-loop μ-loop)
-    → Framed (start c .args .m) (start c .args .n) (at-frame c .frame-of .result .least) (at-frame c .frame-of .result .more) (at-frame c .frame-of .result .weights)
+    → Framed (start c .args .m) (start c .args .n) (at-frame c .frame-of .result .least) (at-frame c .frame-of .result .more)
+    (at-frame c .frame-of .result .weights)
     (at-frame c .frame-of .result .width)
 frame c = at-frame c .frame-of .ensures
 
@@ -96,7 +93,8 @@ loop-again c =
     )
 
 returns-2 : tie.Need-returns-2 Inv-loop μ-loop
-returns-2 c = loose-rows-done _ _ _ _ _ _ _ _ (c .before .loop .inv .2) (omega (arith, c .loop-test .left, c .before .before .before .before .before .before .power .ensures)) (room (c .before))
+returns-2 c = loose-rows-done _ _ _ _ _ _ _ _ (c .before .loop .inv .2)
+    (omega (arith, c .loop-test .left, c .before .before .before .before .before .before .power .ensures)) (room (c .before))
 
 pub rows-spec : {M : Type 1} → statement M
 rows-spec =

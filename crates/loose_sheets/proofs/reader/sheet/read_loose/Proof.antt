@@ -1,7 +1,6 @@
 -- `loose_sheets::reader::sheet::read_loose` meets its contract: the first lines, then the rows.
 -- Assumes nothing.
-use native.Mathlib.Nat.{le-trans}
-use borrow.Author.Needs.{needs}
+use Rattle.laws.specs.Prelude.{le-trans, needs}
 use Rattle.laws.specs.Numbers.Sizes.{sized}
 use Rattle.loose_sheets.specs.Reader.LooseReading.{loose-sheet-refused, loose-sheet-ended}
 use Rattle.loose_sheets.proofs.reader.sheet.read_loose.Statement.{statement}

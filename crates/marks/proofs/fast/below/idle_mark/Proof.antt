@@ -1,6 +1,5 @@
 -- `marks::fast::below::idle_mark` meets its contract. Assumes nothing.
-use borrow.Author.Needs.{needs}
-use borrow.Author.Tests.{eq-eqb, ne-eqb}
+use Rattle.laws.specs.Prelude.{eq-eqb, ne-eqb, needs}
 use Rattle.marks.proofs.fast.below.idle_mark.Statement.{statement}
 use Rattle.marks.proofs.fast.below.idle_mark.Tie as tie
 

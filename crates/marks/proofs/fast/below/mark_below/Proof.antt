@@ -1,15 +1,11 @@
 -- `marks::fast::below::mark_below` meets its contract. The loop's invariant: the groups below `g` are marked and known, and the work arrays keep
 -- their lengths.
 -- Assumes nothing.
-use Prim.Native.Nat.{ℕ, _-_, _^_, _≤_, _<_}
-use mathlib.Core.Path.{_≡_, refl, _∙_, subst}
-use native.Mathlib.Omega.{arith}
-use borrow.Author.Count.{falls}
-use lib.Pow.{pow-pos, pow-mono}
+use Rattle.laws.specs.Prelude.{ℕ, _<_, _≤_, _+_, _-_, _^_, _≡_, _∙_, refl, subst, List, arith, pow-mono, pow-pos}
 use Rattle.rules.specs.Calls.Answers.{inkIn}
 use Rattle.representatives.specs.Steps.{work-same, Near}
 use Rattle.marks.specs.Marking.{Below}
-use Rattle.marks.proofs.Passing.{Long, Passed, passed-none, passed-past, passed-step, passed-room, passed-next}
+use Rattle.marks.proofs.Passing.{Long, Passed, passed-none, passed-past, passed-step, passed-room, passed-next, passed-copies, passed-idle}
 use Rattle.marks.proofs.fast.below.mark_below.Statement.{statement}
 use Rattle.marks.proofs.fast.below.mark_below.Tie as tie
 
@@ -100,22 +96,66 @@ more-idle-requires c κs =
       omega (arith, l .inv .1 .idle-below, pow-mono (pre .0 .inputs)),
     )
 
-add-g : tie.Need-add-g Inv-loop μ-loop
-add-g c = let turn = end-turn (c .before .before) in omega (arith, turn .loop-test .taken, turn .before .before .power .ok)
+-- the group is passed
+module _ (c : tie.After-more-idle Inv-loop μ-loop) where
+  abbrev passed-put : tie.After-put-mark Inv-loop μ-loop
+  passed-put = at-put (c .before .before)
+
+  abbrev passed-marked : tie.After-mark-next Inv-loop μ-loop
+  passed-marked = at-next (passed-put .before)
+
+  abbrev passed-turn : tie.In-loop Inv-loop μ-loop
+  passed-turn = at-past (passed-marked .before) .before
+
+  abbrev passed-start : tie.Start Inv-loop μ-loop
+  passed-start = loop-start (passed-turn .before)
+
+  -- for any marks: those before the copies are made, and those after
+  abbrev PassedIn : List ℕ → ℕ → Type 0
+  PassedIn marks next =
+      let a = passed-start .args in
+      let lent = passed-marked .mark-next .last .1 .1 .1 .1 .1 .1 .1 in
+      Passed (a .m) (a .n) (inkIn (a .cells .now)) (a .marks .now) (lent .0) (lent .1 .0) marks (c .more-idle .result)
+      (at-past (passed-marked .before) .past-of .result) next
+
+  group-passed : PassedIn (passed-put .put-mark .last .0) (passed-turn .before .loop .g + 1)
+  group-passed =
+      let pre = passed-start .pre in
+      passed-next (passed-turn .before .loop .inv .1) (pre .2) (omega (arith, pre .0 .levels)) (below-whole passed-turn)
+      (is-past (at-past (passed-marked .before)))
+      (passed-marked .mark-next .ensures) (passed-put .put-mark .ensures) (c .more-idle .ensures)
+
+pass-copies-requires : tie.Need-pass-copies-requires Inv-loop μ-loop
+pass-copies-requires c κs =
+    let turn = passed-turn (c .before) in
+    let pre = passed-start (c .before) .pre in (
+      turn .loop-test .taken,
+      omega (arith, turn .before .loop .inv .2, pow-mono (pre .0 .inputs)),
+      omega (arith, turn .before .loop .inv .2, group-passed (c .before) .marked .same, pre .2),
+    )
+
+-- the marks that are copied are passed too
+copies-passed : (c : tie.After-pass-copies Inv-loop μ-loop) →
+    let idler = c .before .before in
+    let next = c .pass-copies .result in
+    (passed-turn idler .before .loop .g < next) × (next ≤ passed-turn idler .before .before .power .result - 1)
+    × PassedIn idler (c .pass-copies .last .0) next
+copies-passed c =
+    let idler = c .before .before in
+    let turn = passed-turn idler in
+    let pre = passed-start idler .pre in
+    passed-copies (omega (arith, pre .0 .levels)) (pre .2) (group-passed idler) (is-past (at-past (passed-marked idler .before)) .1) (turn .loop-test .taken)
+    (omega (arith, turn .before .loop .inv .2)) (c .pass-copies .kept .0) (c .pass-copies .ensures)
 
 loop-less : tie.Need-loop-less Inv-loop μ-loop
-loop-less c = let turn = end-turn (c .before .before) in falls (turn .before .before .power .result - 1) (turn .before .loop .g) (turn .loop-test .taken)
+loop-less c = let did = copies-passed (c .before .before) in omega (arith, did .0, did .1)
 
 loop-again : tie.Need-loop-again Inv-loop μ-loop
 loop-again c =
-    let put = at-put (c .before .before) in
-    let marked = at-next (put .before) in
-    let past = at-past (marked .before) in
-    let turn = past .before in
-    let l = turn .before .loop in
-    let long = l .inv .0 in
-    let pre = loop-start (turn .before) .pre in
-    let lent = marked .mark-next .kept .1 .1 .1 .1 .1 .1 .1 in (
+    let did = copies-passed (c .before .before) in
+    let idler = c .before .before .before .before in
+    let long = passed-turn idler .before .loop .inv .0 in
+    let lent = passed-marked idler .mark-next .kept .1 .1 .1 .1 .1 .1 .1 in (
       record {
         for-counts = lent .0 ∙ long .for-counts;
         for-kept = lent .1 .0 ∙ long .for-kept;
@@ -123,10 +163,9 @@ loop-again c =
         for-ys = lent .1 .1 .1 .0 ∙ long .for-ys;
         for-firsts = lent .1 .1 .1 .1 .0 ∙ long .for-firsts;
       },
-      passed-next (l .inv .1) (pre .2) (omega (arith, pre .0 .levels)) (below-whole turn) (is-past past) (marked .mark-next .ensures) (put .put-mark .ensures)
-          (c .more-idle .ensures),
-      l .inv .2,
-      omega (arith, turn .loop-test .taken),
+      did .2,
+      passed-turn idler .before .loop .inv .2,
+      did .1,
     )
 
 returns : tie.Need-returns Inv-loop μ-loop
@@ -134,12 +173,15 @@ returns c =
     let a = loop-start (c .before) .args in
     let l = c .before .loop in
     let all : l .g ≡ 2 ^ a .n - 1 = omega (arith, l .inv .2, l .inv .3, c .loop-test .left) in
-    subst (λ (k : ℕ). Below (a .m) (a .n) (inkIn (a .cells .now)) (a .marks .now) k (l .marks)) all (l .inv .1 .marked)
+    record {
+      marked = subst (λ (k : ℕ). Below (a .m) (a .n) (inkIn (a .cells .now)) (a .marks .now) k (l .marks)) all (l .inv .1 .marked);
+      all-idle = l .inv .1 .all-idle;
+      exact = passed-idle (l .inv .1) all;
+    }
 
 pub mark-below-spec : {M : Type 1} → statement M
 mark-below-spec =
-    tie.close
-    (tie.spec Inv-loop μ-loop (λ c κs. omega (arith, at-start c .pre .0 .inputs)) sub-end loop-holds past-of-requires mark-next-requires
-    put-mark-requires more-idle-requires add-g loop-less loop-again (λ c. c .before .loop .inv .0 .for-counts) (λ c. c .before .loop .inv .0 .for-kept)
-    (λ c. c .before .loop .inv .0 .for-xs) (λ c. c .before .loop .inv .0 .for-ys) (λ c. c .before .loop .inv .0 .for-firsts)
-    (λ c. c .before .loop .inv .1 .marked .same) returns)
+    tie.close (tie.spec Inv-loop μ-loop (λ c κs. omega (arith, at-start c .pre .0 .inputs)) sub-end loop-holds past-of-requires mark-next-requires
+    put-mark-requires more-idle-requires pass-copies-requires loop-less loop-again (λ c. c .before .loop .inv .0 .for-counts)
+    (λ c. c .before .loop .inv .0 .for-kept) (λ c. c .before .loop .inv .0 .for-xs) (λ c. c .before .loop .inv .0 .for-ys)
+    (λ c. c .before .loop .inv .0 .for-firsts) (λ c. c .before .loop .inv .1 .marked .same) returns)

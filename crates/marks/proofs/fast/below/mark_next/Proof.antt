@@ -1,11 +1,8 @@
 -- `marks::fast::below::mark_next` meets its contract: a group with idle members has the mark of the rest; any other has the mark given by its
 -- classes, and becomes known. Assumes nothing.
-use mathlib.Core.Path.{_∙_}
-use native.Mathlib.Omega.{arith}
-use lib.Pow.{pow-mono}
+use Rattle.laws.specs.Prelude.{_∙_, arith, needs, pow-mono}
 use Rattle.representatives.specs.Known.{found-most, known-next}
 use Rattle.marks.specs.Fast.Below.{found-mark, skipped-mark, skipped-known, next-counted}
-use borrow.Author.Needs.{needs}
 use Rattle.marks.proofs.fast.below.mark_next.Statement.{statement}
 use Rattle.marks.proofs.fast.below.mark_next.Tie as tie
 
@@ -30,7 +27,9 @@ returns c =
     let without = c .before .before in
     let pre = at-start without .pre in
     record {
-      is = c .idle-mark .ensures ∙ skipped-mark (pre .1) (without .without .ensures) (omega (arith, pre .0 .levels)) (c .before .if1 .taken);
+      is = c .idle-mark .ensures ∙ skipped-mark (omega (arith, pre .0 .levels)) (pre .1 .group) _ (pre .1 .all-idle) (pre .1 .written)
+          (without .without .ensures)
+          (c .before .if1 .taken);
       known = skipped-known (pre .1) (without .without .ensures) (c .before .if1 .taken);
     }
 

@@ -1,8 +1,6 @@
 -- `marks::fast::below::more_idle` meets its contract. Assumes nothing.
-use mathlib.Core.Path.{refl}
-use native.Mathlib.Omega.{arith}
+use Rattle.laws.specs.Prelude.{refl, arith, needs}
 use Rattle.marks.specs.Fast.Below.{as-before, with-group}
-use borrow.Author.Needs.{needs}
 use Rattle.marks.proofs.fast.below.more_idle.Statement.{statement}
 use Rattle.marks.proofs.fast.below.more_idle.Tie as tie
 
@@ -11,5 +9,5 @@ add-result c = let pre = c .before .before .before .pre in omega (arith, pre .1,
 
 pub more-idle-spec : {M : Type 1} → statement M
 more-idle-spec =
-    tie.close
-    (tie.spec (λ c. search needs) (λ c. as-before refl) (λ c. as-before refl) add-result (λ c. with-group (c .before .if1 .left) (c .if2 .left) refl))
+    tie.close (tie.spec (λ c. search needs) (λ c. as-before (λ one _. c .if1 .taken one) refl) (λ c. as-before (λ _ none. c .if2 .taken none) refl) add-result
+    (λ c. with-group (c .before .if1 .left) (c .if2 .left) refl))

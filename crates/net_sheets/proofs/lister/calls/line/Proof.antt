@@ -12,7 +12,8 @@ returns : tie.Need-returns
 returns c = listed-refused _ _ (c .before .before .before .open .ensures) _ _ _ (c .before .number .given .1)
 
 returns-2 : tie.Need-returns-2
-returns-2 c = listed-given _ _ (c .before .before .before .before .before .open .ensures) _ _ _ _ (c .before .before .before .first .given .1) (c .before .turns-on .ensures) (c .turn-at .ensures)
+returns-2 c = listed-given _ _ (c .before .before .before .before .before .open .ensures) _ _ _ _ (c .before .before .before .first .given .1)
+    (c .before .turns-on .ensures) (c .turn-at .ensures)
 
 pub line-spec : {M : Type 1} → statement M
 line-spec =

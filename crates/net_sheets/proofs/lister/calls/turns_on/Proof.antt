@@ -1,8 +1,6 @@
 -- `turns_on` meets its contract. The loop's invariant: after k iterations the place is the lister's place after k turns.
 -- Assumes nothing.
-use Prim.Native.Nat.{_-_, _≤_}
-use mathlib.Core.Path.{_≡_, ap, _∙_}
-use native.Mathlib.Omega.{arith}
+use Rattle.laws.specs.Prelude.{_≤_, _-_, _≡_, _∙_, ap, arith}
 use Rattle.net_sheets.specs.Lister.Places.{standsAt}
 use Rattle.net_sheets.specs.Lister.Standing.{stays}
 use Rattle.net_sheets.proofs.lister.calls.turns_on.Statement.{statement}

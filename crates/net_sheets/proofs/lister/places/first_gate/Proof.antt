@@ -6,7 +6,8 @@ use Rattle.net_sheets.proofs.lister.places.first_gate.Statement.{statem
 use Rattle.net_sheets.proofs.lister.places.first_gate.Tie as tie
 
 returns : tie.Need-returns
-returns c = fourth _ _ _ _ _ (c .before .before .before .line-after .ensures) (c .before .before .line-after2 .ensures) (c .before .line-after3 .ensures) (c .line-after4 .ensures)
+returns c = fourth _ _ _ _ _ (c .before .before .before .line-after .ensures) (c .before .before .line-after2 .ensures) (c .before .line-after3 .ensures)
+    (c .line-after4 .ensures)
 
 pub first-gate-spec : {M : Type 1} → statement M
 first-gate-spec =

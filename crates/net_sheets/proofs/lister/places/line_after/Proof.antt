@@ -1,9 +1,8 @@
 -- `line_after` meets its contract.
 -- Assumes nothing.
-use native.Mathlib.Omega.{arith}
+use Rattle.laws.specs.Prelude.{arith, needs}
 use Rattle.net_sheets.specs.Lister.Places.{lineAfter}
 use Rattle.net_sheets.proofs.TurnSteps.{onward}
-use borrow.Author.Needs.{needs}
 use Rattle.net_sheets.proofs.lister.places.line_after.Statement.{statement}
 use Rattle.net_sheets.proofs.lister.places.line_after.Tie as tie
 

@@ -1,9 +1,6 @@
 -- `line_end` meets its contract. The loop's invariant: the line's end from here is the line's end from the start.
 -- Assumes nothing.
-use Prim.Native.Nat.{_+_, _-_}
-use mathlib.Core.Path.{_≡_, refl, _∙_}
-use native.Mathlib.Omega.{arith}
-use lib.ListN.{length, drop}
+use Rattle.laws.specs.Prelude.{_+_, _-_, _≡_, _∙_, refl, arith, length, drop}
 use Rattle.rules.specs.Calls.Lister.{lineLength}
 use Rattle.net_sheets.proofs.TurnSteps.{end-here, feed-here, byte-here}
 use Rattle.net_sheets.proofs.lister.places.line_end.Statement.{statement}

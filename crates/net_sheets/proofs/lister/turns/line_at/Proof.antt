@@ -13,6 +13,5 @@ returns-2 c = part-none (c .before .before .before .args .s) _ (c .before .if1 .
 
 pub line-at-spec : {M : Type 1} → statement M
 line-at-spec =
-    tie.close (tie.spec (λ c κs. search needs) (λ c. search needs) (λ c. search needs)
-    (λ c. line-end _ _ _ (c .line-end .ensures) (c .before .if1 .taken)) returns (λ c. search needs) (λ c. search needs) (λ c. search needs)
-    returns-2)
+    tie.close (tie.spec (λ c κs. search needs) (λ c. search needs) (λ c. search needs) (λ c. line-end _ _ _ (c .line-end .ensures) (c .before .if1 .taken))
+    returns (λ c. search needs) (λ c. search needs) (λ c. search needs) returns-2)

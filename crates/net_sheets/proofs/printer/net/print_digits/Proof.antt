@@ -1,9 +1,6 @@
 -- `net_sheets::printer::net::print_digits` meets its contract. The loop's invariant: the digits from i on are left to write at p.
 -- Assumes nothing.
-use Prim.Native.Nat.{ℕ, _+_, _-_, _≤_, _<_}
-use mathlib.Core.List.{List, map}
-use native.Mathlib.Omega.{arith}
-use lib.ListN.{length, getD, set, drop, length-drop, length-map}
+use Rattle.laws.specs.Prelude.{ℕ, _<_, _≤_, _+_, _-_, List, map, arith, length, getD, drop, set, length-map, length-drop}
 use Rattle.rules.specs.Text.{digitByte, zeroByte}
 use Rattle.laws.specs.Lists.Places.{map-at}
 use Rattle.net_sheets.specs.Text.Put.{NetLeft, all-left, next-left, past-left}
@@ -27,7 +24,8 @@ at-loop c = c .before .before
 room : (digits : List ℕ) (i p n : ℕ) → p + length (drop i (map digitByte digits)) ≤ n → p + (length digits - i) ≤ n
 room digits i p n h = rw (length-drop, length-map) at h
 
-turn : (digits : List ℕ) (i : ℕ) {out : List ℕ} {p : ℕ} {out₀ : List ℕ} {at : ℕ} {t : List ℕ} → i < length digits → NetLeft out p (drop i (map digitByte digits)) out₀ at t
+turn : (digits : List ℕ) (i : ℕ) {out : List ℕ} {p : ℕ} {out₀ : List ℕ} {at : ℕ} {t : List ℕ} → i < length digits
+    → NetLeft out p (drop i (map digitByte digits)) out₀ at t
     → NetLeft (set out p (zeroByte + getD digits i 0)) (p + 1) (drop (i + 1) (map digitByte digits)) out₀ at t
 unfolding digitByte
 turn digits i h l = rw (map-at digitByte digits i 0 0 h) at (next-left (map digitByte digits) i (rw length-map h) l)
@@ -39,16 +37,25 @@ add-out : tie.Need-add-out Inv-loop μ-loop
 add-out c = omega (arith, at-start (at-loop c) .pre .1 (at-loop c .loop .i) (c .before .loop-test .taken))
 
 slice-write-out : tie.Need-slice-write-out Inv-loop μ-loop
-slice-write-out c = omega (arith, room (at-start (at-loop c) .args .digits .now) (at-loop c .loop .i) (at-loop c .loop .p) (length (at-loop c .loop .out)) (at-loop c .loop .inv .1 .room))
+slice-write-out c = omega (
+  arith,
+  room (at-start (at-loop c) .args .digits .now) (at-loop c .loop .i) (at-loop c .loop .p) (length (at-loop c .loop .out))
+      (at-loop c .loop .inv .1 .room),
+)
 
 add-p : tie.Need-add-p Inv-loop μ-loop
-add-p c = omega (arith, room (at-start (at-loop c) .args .digits .now) (at-loop c .loop .i) (at-loop c .loop .p) (length (at-loop c .loop .out)) (at-loop c .loop .inv .1 .room))
+add-p c = omega (
+  arith,
+  room (at-start (at-loop c) .args .digits .now) (at-loop c .loop .i) (at-loop c .loop .p) (length (at-loop c .loop .out))
+      (at-loop c .loop .inv .1 .room),
+)
 
 loop-again : tie.Need-loop-again Inv-loop μ-loop
 loop-again c = (omega arith, turn (at-start (at-loop c) .args .digits .now) (at-loop c .loop .i) (c .before .loop-test .taken) (at-loop c .loop .inv .1))
 
 returns : tie.Need-returns Inv-loop μ-loop
-returns c = past-left (map digitByte (at-start (c .before) .args .digits .now)) (c .before .loop .i) (rw length-map (c .loop-test .left)) (c .before .loop .inv .1)
+returns c =
+    past-left (map digitByte (at-start (c .before) .args .digits .now)) (c .before .loop .i) (rw length-map (c .loop-test .left)) (c .before .loop .inv .1)
 
 pub print-digits-spec : {M : Type 1} → statement M
 print-digits-spec =

@@ -1,10 +1,6 @@
 -- `net_sheets::printer::net::print_gate` meets its contract: after each call, what is left to write.
 -- Assumes nothing.
-use Prim.Native.Nat.{ℕ, _<_}
-use mathlib.Core.List.{List, [], _∷_, _++_, map}
-use native.Mathlib.Omega.{arith}
-use borrow.Author.Needs.{needs}
-use lib.ListN.{getD}
+use Rattle.laws.specs.Prelude.{ℕ, _<_, List, [], _∷_, _++_, map, arith, getD, needs}
 use Rattle.rules.specs.Text.{space, newline, digitByte}
 use Rattle.rules.specs.Sheets.Printed.{printedGate}
 use Rattle.nets.specs.Room.{mostGates}
@@ -53,21 +49,26 @@ unfolding printedGate gateOf
 start c = parts-left (line-three (left c) (right c) (digits c)) (c .pre .3)
 
 first : (c : tie.After-print-wire)
-    → Put (first-start c .args .out .now) (first-start c .args .at) (left (first-start c) ++ (space ∷ [])) (c .print-wire .last .1 .1 .1 .0) (c .print-wire .result)
+    → Put (first-start c .args .out .now) (first-start c .args .at) (left (first-start c) ++ (space ∷ [])) (c .print-wire .last .1 .1 .1 .0)
+    (c .print-wire .result)
 first c = rw (c .before .before .wide .ensures .0) at (c .print-wire .ensures)
 
 after-first : (c : tie.After-print-wire)
-    → Rest (first-start c) (c .print-wire .last .1 .1 .1 .0) (c .print-wire .result) ((right (first-start c) ++ (space ∷ [])) ++ (digits (first-start c) ++ (newline ∷ [])))
+    → Rest (first-start c) (c .print-wire .last .1 .1 .1 .0) (c .print-wire .result)
+    ((right (first-start c) ++ (space ∷ [])) ++ (digits (first-start c) ++ (newline ∷ [])))
 after-first c = put-left (start (first-start c)) (first c)
 
 second : (c : tie.After-print-wire2)
-    → Put (at-first (c .before .before .before) .print-wire .last .1 .1 .1 .0) (at-first (c .before .before .before) .print-wire .result) (right (second-start c) ++ (space ∷ [])) (c .print-wire2 .last .1 .1 .1 .0) (c .print-wire2 .result)
+    → Put (at-first (c .before .before .before) .print-wire .last .1 .1 .1 .0) (at-first (c .before .before .before) .print-wire .result)
+    (right (second-start c) ++ (space ∷ [])) (c .print-wire2 .last .1 .1 .1 .0) (c .print-wire2 .result)
 second c = rw (c .before .before .wide2 .ensures .0) at (c .print-wire2 .ensures)
 
-after-second : (c : tie.After-print-wire2) → Rest (second-start c) (c .print-wire2 .last .1 .1 .1 .0) (c .print-wire2 .result) (digits (second-start c) ++ (newline ∷ []))
+after-second : (c : tie.After-print-wire2) → Rest (second-start c) (c .print-wire2 .last .1 .1 .1 .0) (c .print-wire2 .result)
+    (digits (second-start c) ++ (newline ∷ []))
 after-second c = put-left (after-first (at-first (c .before .before .before))) (second c)
 
-after-table : (c : tie.After-print-gate-table) → Rest (second-start (at-second (c .before))) (c .print-gate-table .last .1 .1 .0) (c .print-gate-table .result) (newline ∷ [])
+after-table : (c : tie.After-print-gate-table) → Rest (second-start (at-second (c .before))) (c .print-gate-table .last .1 .1 .0) (c .print-gate-table .result)
+    (newline ∷ [])
 after-table c = put-left (after-second (at-second (c .before))) (c .print-gate-table .ensures)
 
 -- the form has room for the gate
@@ -83,10 +84,17 @@ print-wire-requires c κs =
 print-wire-requires-2 : tie.Need-print-wire-requires-2
 print-wire-requires-2 c κs =
     let wire = at-first (c .before .before) in
-    rw (c .before .wide2 .ensures .0) (first-start wire .pre .0, room-for (right (first-start wire) ++ (space ∷ [])) (digits (first-start wire) ++ (newline ∷ [])) (after-first wire))
+    rw (c .before .wide2 .ensures .0) (
+      first-start wire .pre .0,
+      room-for (right (first-start wire) ++ (space ∷ [])) (digits (first-start wire) ++ (newline ∷ [])) (after-first wire),
+    )
 
 print-gate-table-requires : tie.Need-print-gate-table-requires
-print-gate-table-requires c κs = (second-start (at-second c) .pre .1, second-start (at-second c) .pre .2, room-for (digits (second-start (at-second c))) (newline ∷ []) (after-second (at-second c)))
+print-gate-table-requires c κs = (
+  second-start (at-second c) .pre .1,
+  second-start (at-second c) .pre .2,
+  room-for (digits (second-start (at-second c))) (newline ∷ []) (after-second (at-second c)),
+)
 
 returns : tie.Need-returns
 unfolding newline

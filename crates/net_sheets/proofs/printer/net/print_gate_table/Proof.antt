@@ -1,10 +1,6 @@
 -- `net_sheets::printer::net::print_gate_table` meets its contract: the part of the form's digits that it prints is the gate's.
 -- Assumes nothing.
-use Prim.Native.Nat.{ℕ, _+_, _-_, _*_, _≤_}
-use mathlib.Core.Path.{_≡_, sym, ap, _∙_}
-use native.Mathlib.Omega.{arith}
-use borrow.Author.Needs.{needs}
-use lib.ListN.{length, take, drop, length-map}
+use Rattle.laws.specs.Prelude.{ℕ, _≤_, _+_, _-_, _*_, _≡_, _∙_, sym, ap, arith, length, take, drop, length-map, needs}
 use Rattle.nets.specs.Room.{mostDigits}
 use Rattle.nets.specs.declared.forms.Net.{Net}
 use Rattle.nets.specs.Forms.{gateOf}
@@ -28,7 +24,8 @@ size c = sym (length-map (c .args .net .digits) (λ v. v)) ∙ c .good .0 .1 .1 
 
 -- the part that the code takes
 part : (net : Net) (k : ℕ)
-    → take (k * (net .levels * net .levels) + net .levels * net .levels - k * (net .levels * net .levels)) (drop (k * (net .levels * net .levels)) (net .digits))
+    → take (k * (net .levels * net .levels) + net .levels * net .levels - k * (net .levels * net .levels))
+    (drop (k * (net .levels * net .levels)) (net .digits))
     ≡ gateOf net k .digits
 unfolding gateOf
 part net k =
@@ -42,7 +39,8 @@ print-digits-requires c κs =
     (part-start c .pre .2, table-digit (part-start c .args .net) (part-start c .pre .0) (part-start c .args .k) (part-start c .pre .1))
 
 returns : tie.Need-returns
-returns c = rw (part (part-start (c .before .before .before) .args .net) (part-start (c .before .before .before) .args .k)) at (c .before .before .print-digits .ensures)
+returns c = rw (part (part-start (c .before .before .before) .args .net) (part-start (c .before .before .before) .args .k)) at
+    (c .before .before .print-digits .ensures)
 
 pub print-gate-table-spec : {M : Type 1} → statement M
 print-gate-table-spec =

@@ -1,9 +1,6 @@
 -- `net_sheets::printer::net::print_net` meets its contract: after each call, what is left to write.
 -- Assumes nothing.
-use Prim.Native.Nat.{ℕ}
-use mathlib.Core.List.{List, [], _∷_, _++_}
-use native.Mathlib.Omega.{arith}
-use borrow.Author.Needs.{needs}
+use Rattle.laws.specs.Prelude.{ℕ, List, [], _∷_, _++_, arith, needs}
 use Rattle.rules.specs.Text.{space, newline, text, decimal}
 use Rattle.rules.specs.Sheets.Printed.{line, printedNet}
 use Rattle.net_sheets.specs.Text.Put.{NetLeft, parts-left, put-left, room-for, last-put, put-wrote}
@@ -56,11 +53,13 @@ Rest c out at t = NetLeft out at t (c .args .out .now) 0 (sheet c)
 start : (c : tie.Start) → Rest c (c .args .out .now) 0 (firstTwo c ++ (third c ++ (fourth ++ gates c)))
 start c = parts-left (net-parts (c .args .s .now) (c .args .h) (c .args .net)) (omega (arith, c .pre .2))
 
-after-pair : (c : tie.After-print-pair) → Rest (pair-start c) (c .print-pair .last .1 .1 .1 .0) (c .print-pair .result) (third (pair-start c) ++ (fourth ++ gates (pair-start c)))
+after-pair : (c : tie.After-print-pair) → Rest (pair-start c) (c .print-pair .last .1 .1 .1 .0) (c .print-pair .result)
+    (third (pair-start c) ++ (fourth ++ gates (pair-start c)))
 unfolding line text space newline
 after-pair c = put-left (start (pair-start c)) (c .print-pair .ensures)
 
-after-names : (c : tie.After-print-names-line) → Rest (names-start c) (c .print-names-line .last .1 .1 .0) (c .print-names-line .result) (fourth ++ gates (names-start c))
+after-names : (c : tie.After-print-names-line) → Rest (names-start c) (c .print-names-line .last .1 .1 .0) (c .print-names-line .result)
+    (fourth ++ gates (names-start c))
 after-names c = put-left (after-pair (at-pair (c .before))) (c .print-names-line .ensures)
 
 after-fourth : (c : tie.After-copy) → Rest (copy-start c) (c .copy .last .1 .0) (c .copy .result) (gates (copy-start c))
@@ -72,7 +71,8 @@ unfolding line text space newline
 print-pair-requires c κs = room-for (firstTwo (at-start c)) (third (at-start c) ++ (fourth ++ gates (at-start c))) (start (at-start c))
 
 print-names-line-requires : tie.Need-print-names-line-requires
-print-names-line-requires c κs = (pair-start (at-pair c) .pre .0, room-for (third (pair-start (at-pair c))) (fourth ++ gates (pair-start (at-pair c))) (after-pair (at-pair c)))
+print-names-line-requires c κs =
+    (pair-start (at-pair c) .pre .0, room-for (third (pair-start (at-pair c))) (fourth ++ gates (pair-start (at-pair c))) (after-pair (at-pair c)))
 
 copy-requires : tie.Need-copy-requires
 unfolding line text space newline
@@ -82,10 +82,10 @@ print-gates-requires : tie.Need-print-gates-requires
 print-gates-requires c κs = (copy-start (at-copy c) .pre .0, copy-start (at-copy c) .pre .1, after-fourth (at-copy c) .room)
 
 returns : tie.Need-returns
-returns c = put-wrote (copy-start (at-copy (c .before .before .before)) .pre .2) (last-put (after-fourth (at-copy (c .before .before .before))) (c .before .before .print-gates .ensures))
+returns c = put-wrote (copy-start (at-copy (c .before .before .before)) .pre .2)
+    (last-put (after-fourth (at-copy (c .before .before .before))) (c .before .before .print-gates .ensures))
 
 pub print-net-spec : {M : Type 1} → statement M
 print-net-spec =
-    tie.close
-    (tie.spec (λ c. search needs) print-pair-requires print-names-line-requires (λ c. search needs) copy-requires print-gates-requires
+    tie.close (tie.spec (λ c. search needs) print-pair-requires print-names-line-requires (λ c. search needs) copy-requires print-gates-requires
     (λ c. search needs) returns)

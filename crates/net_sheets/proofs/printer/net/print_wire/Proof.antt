@@ -1,8 +1,6 @@
 -- `net_sheets::printer::net::print_wire` meets its contract: after the reference, the space is left to write.
 -- Assumes nothing.
-use Prim.Native.Nat.{ℕ}
-use mathlib.Core.List.{List, [], _∷_, _++_}
-use borrow.Author.Needs.{needs}
+use Rattle.laws.specs.Prelude.{ℕ, List, [], _∷_, _++_, needs}
 use Rattle.rules.specs.Text.{space}
 use Rattle.net_sheets.specs.Printer.Gates.{referenceIn}
 use Rattle.net_sheets.specs.Text.Put.{NetLeft, all-left, put-left, room-for, room-byte, last-put}
@@ -23,7 +21,8 @@ start : (c : tie.Start) → NetLeft (c .args .out .now) (c .args .at) (field c +
 start c = all-left (c .pre .1)
 
 after-reference : (c : tie.After-print-reference)
-    → NetLeft (c .print-reference .last .1 .1 .1 .0) (c .print-reference .result) (space ∷ []) (at-start (c .before) .args .out .now) (at-start (c .before) .args .at) (field (at-start (c .before)) ++ (space ∷ []))
+    → NetLeft (c .print-reference .last .1 .1 .1 .0) (c .print-reference .result) (space ∷ []) (at-start (c .before) .args .out .now)
+    (at-start (c .before) .args .at) (field (at-start (c .before)) ++ (space ∷ []))
 after-reference c = put-left (start (at-start (c .before))) (c .print-reference .ensures)
 
 print-reference-requires : tie.Need-print-reference-requires

@@ -1,10 +1,6 @@
 -- `net_sheets::reader::digits::copy_digits` meets its contract. The loop's invariant: the first i digits are pasted.
 -- Assumes nothing.
-use Prim.Native.Nat.{_+_, _-_, _≤_}
-use mathlib.Core.Path.{_≡_, ap, _∙_}
-use native.Mathlib.Omega.{arith}
-use lib.ListN.{set, getD}
-use lib.Seq.{paste, paste-zero}
+use Rattle.laws.specs.Prelude.{_≤_, _+_, _-_, _≡_, _∙_, ap, arith, getD, set, paste, paste-zero}
 use Rattle.rules.specs.Text.{zeroByte}
 use Rattle.net_sheets.specs.Reader.Digits.{digitsAt, digits-copied}
 use Rattle.net_sheets.proofs.reader.digits.copy_digits.Statement.{statement}

@@ -1,11 +1,6 @@
 -- `net_sheets::reader::digits::is_table` meets its contract. The loop's invariant: all are digits exactly when the rest is.
 -- Assumes nothing.
-use Prim.Native.Nat.{_-_}
-use mathlib.Core.Path.{_≡_, sym, _∙_}
-use native.Mathlib.Nat.{mul-le-mul, lt-of-le-of-lt}
-use native.Mathlib.Omega.{arith}
-use lib.Dec.{lit<}
-use lib.ListN.{length, drop}
+use Rattle.laws.specs.Prelude.{_-_, _≡_, _∙_, sym, mul-le-mul, lt-of-le-of-lt, arith, lit<, length, drop}
 use Rattle.rules.specs.Lists.{all}
 use Rattle.rules.specs.Text.{isDigit}
 use Rattle.laws.specs.Lists.Walks.{all-next, all-stop, all-end}
@@ -51,6 +46,5 @@ returns-4 c = sym (all-end _ _ (c .before .loop .i) (c .loop-test .left)) ∙ c 
 
 pub is-table-spec : {M : Type 1} → statement M
 is-table-spec =
-    tie.close
-    (tie.spec Inv-loop μ-loop mul-if1 returns loop-holds (λ c. omega arith) cast-b returns-2 (λ c. omega arith) returns-3 (λ c. omega arith)
+    tie.close (tie.spec Inv-loop μ-loop mul-if1 returns loop-holds (λ c. omega arith) cast-b returns-2 (λ c. omega arith) returns-3 (λ c. omega arith)
     (λ c. omega arith) loop-again returns-4)

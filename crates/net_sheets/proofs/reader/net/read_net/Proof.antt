@@ -15,7 +15,8 @@ returns c = net-sheet-back _ _ (c .before .before .before .before .before .heade
 
 returns-2 : tie.Need-returns-2
 unfolding newline
-returns-2 c = net-on _ _ (c .before .before .before .before .before .header-lines .ensures) _ _ _ (c .before .before .step2 .given .1) (c .from-heading .ensures)
+returns-2 c =
+    net-on _ _ (c .before .before .before .before .before .header-lines .ensures) _ _ _ (c .before .before .step2 .given .1) (c .from-heading .ensures)
 
 pub read-net-spec : {M : Type 1} → statement M
 read-net-spec =

@@ -1,12 +1,6 @@
 -- `net_sheets::reader::references::is_used` meets its contract. The loop's invariant: some gate uses r exactly when one from `k` on does.
 -- Assumes nothing.
-use borrow.Author.Needs.{needs}
-use Prim.Native.Nat.{_-_}
-use mathlib.Core.Path.{_≡_, sym, _∙_}
-use mathlib.Core.List.{map}
-use native.Mathlib.Nat.{sub-zero}
-use native.Mathlib.Omega.{arith}
-use lib.Dec.{eqb}
+use Rattle.laws.specs.Prelude.{_-_, _≡_, _∙_, sym, map, sub-zero, arith, eqb, needs}
 use Rattle.rules.specs.Lists.{range, any}
 use Rattle.rules.specs.Sheets.Sheets.{usedBy}
 use Rattle.nets.specs.Forms.{gateOf, gatesOf}
@@ -44,6 +38,5 @@ returns-3 c = sym (c .before .loop .inv ∙ used-none _ _ (c .before .loop .k) (
 
 pub is-used-spec : {M : Type 1} → statement M
 is-used-spec =
-    tie.close
-    (tie.spec Inv-loop μ-loop loop-holds (λ c. omega arith) (λ c. search needs) returns (λ c. omega arith) (λ c. search needs) returns-2
+    tie.close (tie.spec Inv-loop μ-loop loop-holds (λ c. omega arith) (λ c. search needs) returns (λ c. omega arith) (λ c. search needs) returns-2
     (λ c. omega arith) (λ c. omega arith) loop-again returns-3)

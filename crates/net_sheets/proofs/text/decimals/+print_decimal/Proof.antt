@@ -1,13 +1,9 @@
 -- `net_sheets::text::decimals::print_decimal` meets its contract. The measure is the number; from 10 on the decimal value of k / 10
 -- is written first, and one digit is left.
 -- Assumes nothing.
-use Prim.Native.Nat.{ℕ, _+_, _/_, _%_, _≤_, _<_}
-use mathlib.Core.List.{List, [], _∷_, _++_}
-use native.Mathlib.Omega.{arith}
-use borrow.Author.Needs.{needs}
+use Rattle.laws.specs.Prelude.{ℕ, _<_, _≤_, _+_, _%_, _/_, List, [], _∷_, _++_, arith, length, needs}
 use borrow.Fn.Kinds.{In}
 use borrow.Fn.PlainCycle.{Measures, is, falls, and}
-use lib.ListN.{length}
 use Rattle.rules.specs.Text.{digitByte, decimal}
 use Rattle.net_sheets.specs.Text.Put.{NetLeft, parts-left, put-left, room-for, last-put}
 use Rattle.laws.specs.Numbers.Decimals.{decimal-one, decimal-more}
@@ -61,8 +57,14 @@ print-decimal-put-digit-requires : (t : ℕ) → print-decimal-lts.Need-put-digi
   print-decimal.Post,
 ) (print-decimal-at t) print-decimal.Post
 print-decimal-put-digit-requires t c κs =
-    let h : c .before .before .before .args .k < 10 = omega arith in
-    (h, omega (arith, (one-left (c .before .before .before .args .out .now) (c .before .before .before .args .at) (c .before .before .before .args .k) (c .before .before .before .pre .1) h) .room))
+    let h : c .before .before .before .args .k < 10 = omega arith in (
+      h,
+      omega (
+        arith,
+        (one-left (c .before .before .before .args .out .now) (c .before .before .before .args .at) (c .before .before .before .args .k)
+            (c .before .before .before .pre .1) h) .room,
+      ),
+    )
 
 print-decimal-same-length : (t : ℕ) → print-decimal-lts.Need-same-length (
   put-digit-reads.Asked,
@@ -80,7 +82,8 @@ print-decimal-returns : (t : ℕ) → print-decimal-lts.Need-returns (
 ) (print-decimal-at t) print-decimal.Post
 print-decimal-returns t c =
     let start = c .before .before .before .before .before .before in
-    last-put (one-left (start .args .out .now) (start .args .at) (start .args .k) (start .pre .1) (c .before .before .before .before .if1 .taken)) (c .before .before .put-digit .ensures)
+    last-put (one-left (start .args .out .now) (start .args .at) (start .args .k) (start .pre .1) (c .before .before .before .before .if1 .taken))
+    (c .before .before .put-digit .ensures)
 
 print-decimal-print-decimal-requires : (t : ℕ) → print-decimal-lts.Need-print-decimal-requires (
   put-digit-reads.Asked,
@@ -91,7 +94,8 @@ print-decimal-print-decimal-requires : (t : ℕ) → print-decimal-lts.Need-prin
 print-decimal-print-decimal-requires t c κs = (
   omega arith,
   room-for (decimal (c .before .before .before .args .k / 10)) (digitByte (c .before .before .before .args .k % 10) ∷ [])
-      (more-left (c .before .before .before .args .out .now) (c .before .before .before .args .at) (c .before .before .before .args .k) (c .before .before .before .pre .1) (c .before .if1 .left)),
+      (more-left (c .before .before .before .args .out .now) (c .before .before .before .args .at) (c .before .before .before .args .k)
+      (c .before .before .before .pre .1) (c .before .if1 .left)),
 )
 
 print-decimal-put-digit-requires-2 : (t : ℕ) → print-decimal-lts.Need-put-digit-requires-2 (
@@ -102,8 +106,14 @@ print-decimal-put-digit-requires-2 : (t : ℕ) → print-decimal-lts.Need-put-di
 ) (print-decimal-at t) print-decimal.Post
 print-decimal-put-digit-requires-2 t c κs =
     let called = c .before .before .before in
-    let start = at-start t called in
-    (omega arith, omega (arith, (put-left (more-left (start .args .out .now) (start .args .at) (start .args .k) (start .pre .1) (called .before .before .if1 .left)) (called .print-decimal .ensures)) .room))
+    let start = at-start t called in (
+      omega arith,
+      omega (
+        arith,
+        (put-left (more-left (start .args .out .now) (start .args .at) (start .args .k) (start .pre .1)
+            (called .before .before .if1 .left)) (called .print-decimal .ensures)) .room,
+      ),
+    )
 
 print-decimal-same-length-2 : (t : ℕ) → print-decimal-lts.Need-same-length-2 (
   put-digit-reads.Asked,
@@ -122,7 +132,8 @@ print-decimal-returns-2 : (t : ℕ) → print-decimal-lts.Need-returns-2 (
 print-decimal-returns-2 t c =
     let called = c .before .before .before .before .before .before in
     let start = at-start t called in
-    last-put (put-left (more-left (start .args .out .now) (start .args .at) (start .args .k) (start .pre .1) (called .before .before .if1 .left)) (called .print-decimal .ensures)) (c .before .before .put-digit2 .ensures)
+    last-put (put-left (more-left (start .args .out .now) (start .args .at) (start .args .k) (start .pre .1) (called .before .before .if1 .left))
+    (called .print-decimal .ensures)) (c .before .before .put-digit2 .ensures)
 
 pub +print-decimal-spec : {M : Type 1} → statement M
 +print-decimal-spec = close μ-print-decimal λ t. print-decimal-lts.spec (

@@ -1,7 +1,6 @@
 -- `net_sheets::text::header::print_name` meets its contract: what is copied is the name.
 -- Assumes nothing.
-use native.Mathlib.Omega.{arith}
-use borrow.Author.Needs.{needs}
+use Rattle.laws.specs.Prelude.{arith, needs}
 use Rattle.net_sheets.proofs.text.header.print_name.Statement.{statement}
 use Rattle.net_sheets.proofs.text.header.print_name.Tie as tie
 

@@ -1,8 +1,6 @@
 -- `net_sheets::text::header::print_names` meets its contract. The loop's invariant: the names from i on are left to write at p.
 -- Assumes nothing.
-use Prim.Native.Nat.{ℕ, _+_, _-_, _≤_}
-use mathlib.Core.List.{List, _∷_, _++_}
-use native.Mathlib.Omega.{arith}
+use Rattle.laws.specs.Prelude.{ℕ, _≤_, _+_, _-_, List, _∷_, _++_, arith}
 use Rattle.rules.specs.Text.{space}
 use Rattle.nets.specs.Forms.{nameIn}
 use Rattle.net_sheets.specs.Text.Put.{NetLeft, all-left, put-left, room-for, room-byte, none-left}
@@ -35,21 +33,24 @@ Rest c out p t = NetLeft out p t (at-start c .args .out .now) (at-start c .args 
 turn : (c : tie.In-loop Inv-loop μ-loop) → Rest c (c .before .loop .out) (c .before .loop .p) (name c (c .before .loop .i) ++ (space ∷ later c))
 turn c = rw (spaced-next (name c) (c .before .loop .i) (at-start c .args .count) (c .loop-test .taken)) at (c .before .loop .inv .1)
 
-after-name : (c : tie.After-print-name Inv-loop μ-loop) → Rest (c .before .before) (c .print-name .last .1 .1 .1 .0) (c .print-name .result) (space ∷ later (c .before .before))
+after-name : (c : tie.After-print-name Inv-loop μ-loop) → Rest (c .before .before) (c .print-name .last .1 .1 .1 .0) (c .print-name .result)
+    (space ∷ later (c .before .before))
 after-name c = put-left (turn (c .before .before)) (c .print-name .ensures)
 
 loop-holds : tie.Need-loop-holds Inv-loop μ-loop
 loop-holds c = (omega arith, all-left (c .before .before .pre .2))
 
 print-name-requires : tie.Need-print-name-requires Inv-loop μ-loop
-print-name-requires c κs = (at-start (c .before) .pre .0, omega arith, room-for (name (c .before) (c .before .before .loop .i)) (space ∷ later (c .before)) (turn (c .before)))
+print-name-requires c κs =
+    (at-start (c .before) .pre .0, omega arith, room-for (name (c .before) (c .before .before .loop .i)) (space ∷ later (c .before)) (turn (c .before)))
 
 loop-again : tie.Need-loop-again Inv-loop μ-loop
 unfolding space
 loop-again c = (omega arith, put-left (after-name (at-name (c .before .before .before))) (c .before .before .put .ensures))
 
 returns : tie.Need-returns Inv-loop μ-loop
-returns c = none-left (rw (spaced-none (nameIn (c .before .before .before .before .args .s .now) (c .before .before .before .before .args .h)) (c .before .loop .i) (c .before .before .before .before .args .count) (c .loop-test .left)) at (c .before .loop .inv .1))
+returns c = none-left (rw (spaced-none (nameIn (c .before .before .before .before .args .s .now) (c .before .before .before .before .args .h))
+    (c .before .loop .i) (c .before .before .before .before .args .count) (c .loop-test .left)) at (c .before .loop .inv .1))
 
 pub print-names-spec : {M : Type 1} → statement M
 print-names-spec =

@@ -1,9 +1,6 @@
 -- `net_sheets::text::header::print_names_line` meets its contract: after each call, what is left to write.
 -- Assumes nothing.
-use Prim.Native.Nat.{ℕ, _-_}
-use mathlib.Core.List.{List, [], _∷_, _++_}
-use native.Mathlib.Omega.{arith}
-use borrow.Author.Needs.{needs}
+use Rattle.laws.specs.Prelude.{ℕ, _-_, List, [], _∷_, _++_, arith, needs}
 use Rattle.rules.specs.Text.{newline}
 use Rattle.rules.specs.Sheets.Printed.{line}
 use Rattle.nets.specs.Forms.{nameIn, namesIn}
@@ -38,18 +35,27 @@ Rest c out at t = NetLeft out at t (c .args .out .now) (c .args .at) (line (name
 start : (c : tie.Start) → Rest c (c .args .out .now) (c .args .at) (spacedFrom (name c) 0 (last c) ++ (name c (last c) ++ (newline ∷ [])))
 start c = parts-left (names-line (c .args .s .now) (c .args .h) (c .pre .0 .some)) (c .pre .1)
 
-after-names : (c : tie.After-print-names) → Rest (names-start c) (c .print-names .last .1 .1 .1 .0) (c .print-names .result) (name (names-start c) (last (names-start c)) ++ (newline ∷ []))
+after-names : (c : tie.After-print-names) → Rest (names-start c) (c .print-names .last .1 .1 .1 .0) (c .print-names .result)
+    (name (names-start c) (last (names-start c)) ++ (newline ∷ []))
 after-names c = put-left (start (names-start c)) (c .print-names .ensures)
 
 after-name : (c : tie.After-print-name) → Rest (names-start (at-names (c .before))) (c .print-name .last .1 .1 .1 .0) (c .print-name .result) (newline ∷ [])
 after-name c = put-left (after-names (at-names (c .before))) (c .print-name .ensures)
 
 print-names-requires : tie.Need-print-names-requires
-print-names-requires c κs =
-    (at-start c .pre .0, omega arith, room-for (spacedFrom (name (at-start c)) 0 (last (at-start c))) (name (at-start c) (last (at-start c)) ++ (newline ∷ [])) (start (at-start c)))
+print-names-requires c κs = (
+  at-start c .pre .0,
+  omega arith,
+  room-for (spacedFrom (name (at-start c)) 0 (last (at-start c))) (name (at-start c) (last (at-start c)) ++ (newline ∷ []))
+      (start (at-start c)),
+)
 
 print-name-requires : tie.Need-print-name-requires
-print-name-requires c κs = (names-start (at-names c) .pre .0, omega arith, room-for (name (names-start (at-names c)) (last (names-start (at-names c)))) (newline ∷ []) (after-names (at-names c)))
+print-name-requires c κs = (
+  names-start (at-names c) .pre .0,
+  omega arith,
+  room-for (name (names-start (at-names c)) (last (names-start (at-names c)))) (newline ∷ []) (after-names (at-names c)),
+)
 
 returns : tie.Need-returns
 unfolding newline

@@ -1,8 +1,6 @@
 -- `net_sheets::text::header::print_pair` meets its contract: after each call, what is left to write.
 -- Assumes nothing.
-use Prim.Native.Nat.{ℕ}
-use mathlib.Core.List.{List, [], _∷_, _++_}
-use borrow.Author.Needs.{needs}
+use Rattle.laws.specs.Prelude.{ℕ, List, [], _∷_, _++_, needs}
 use Rattle.rules.specs.Text.{space, newline, decimal}
 use Rattle.rules.specs.Sheets.Printed.{line}
 use Rattle.net_sheets.specs.Text.Put.{NetLeft, all-left, put-left, room-for, room-byte, last-put}
@@ -42,24 +40,30 @@ start : (c : tie.Start) → Rest c (c .args .out .now) (c .args .at) (text c)
 unfolding line
 start c = all-left (c .pre)
 
-after-copy : (c : tie.After-copy) → Rest (copy-start c) (c .copy .last .1 .0) (c .copy .result) (decimal (copy-start c .args .a) ++ (space ∷ (decimal (copy-start c .args .b) ++ (newline ∷ []))))
+after-copy : (c : tie.After-copy) → Rest (copy-start c) (c .copy .last .1 .0) (c .copy .result)
+    (decimal (copy-start c .args .a) ++ (space ∷ (decimal (copy-start c .args .b) ++ (newline ∷ []))))
 after-copy c = put-left (start (copy-start c)) (c .copy .ensures)
 
-after-first : (c : tie.After-print-decimal) → Rest (first-start c) (c .print-decimal .last .1 .0) (c .print-decimal .result) (space ∷ (decimal (first-start c .args .b) ++ (newline ∷ [])))
+after-first : (c : tie.After-print-decimal) → Rest (first-start c) (c .print-decimal .last .1 .0) (c .print-decimal .result)
+    (space ∷ (decimal (first-start c .args .b) ++ (newline ∷ [])))
 after-first c = put-left (after-copy (at-copy (c .before))) (c .print-decimal .ensures)
 
-after-space : (c : tie.After-put) → Rest (first-start (at-first (c .before))) (c .put .last .1 .0) (c .put .result) (decimal (first-start (at-first (c .before)) .args .b) ++ (newline ∷ []))
+after-space : (c : tie.After-put) → Rest (first-start (at-first (c .before))) (c .put .last .1 .0) (c .put .result)
+    (decimal (first-start (at-first (c .before)) .args .b) ++ (newline ∷ []))
 unfolding space
 after-space c = put-left (after-first (at-first (c .before))) (c .put .ensures)
 
-after-second : (c : tie.After-print-decimal2) → Rest (first-start (at-first (at-space (c .before) .before))) (c .print-decimal2 .last .1 .0) (c .print-decimal2 .result) (newline ∷ [])
+after-second : (c : tie.After-print-decimal2) → Rest (first-start (at-first (at-space (c .before) .before))) (c .print-decimal2 .last .1 .0)
+    (c .print-decimal2 .result) (newline ∷ [])
 after-second c = put-left (after-space (at-space (c .before))) (c .print-decimal2 .ensures)
 
 copy-requires : tie.Need-copy-requires
-copy-requires c κs = room-for (at-start c .args .head .now) (decimal (at-start c .args .a) ++ (space ∷ (decimal (at-start c .args .b) ++ (newline ∷ [])))) (start (at-start c))
+copy-requires c κs =
+    room-for (at-start c .args .head .now) (decimal (at-start c .args .a) ++ (space ∷ (decimal (at-start c .args .b) ++ (newline ∷ [])))) (start (at-start c))
 
 print-decimal-requires : tie.Need-print-decimal-requires
-print-decimal-requires c κs = room-for (decimal (copy-start (at-copy c) .args .a)) (space ∷ (decimal (copy-start (at-copy c) .args .b) ++ (newline ∷ []))) (after-copy (at-copy c))
+print-decimal-requires c κs =
+    room-for (decimal (copy-start (at-copy c) .args .a)) (space ∷ (decimal (copy-start (at-copy c) .args .b) ++ (newline ∷ []))) (after-copy (at-copy c))
 
 print-decimal-requires-2 : tie.Need-print-decimal-requires-2
 print-decimal-requires-2 c κs = room-for (decimal (first-start (at-first (at-space c .before)) .args .b)) (newline ∷ []) (after-space (at-space c))

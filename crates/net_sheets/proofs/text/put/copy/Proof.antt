@@ -1,8 +1,6 @@
 -- `net_sheets::text::put::copy` meets its contract. The loop's invariant: the bytes of `t` from i on are left to write at p.
 -- Assumes nothing.
-use Prim.Native.Nat.{_≤_, _-_}
-use native.Mathlib.Omega.{arith}
-use lib.ListN.{length, drop, length-drop}
+use Rattle.laws.specs.Prelude.{_≤_, _-_, arith, length, drop, length-drop}
 use Rattle.net_sheets.specs.Text.Put.{NetLeft, all-left, next-left, past-left}
 use Rattle.net_sheets.proofs.text.put.copy.Statement.{statement}
 use Rattle.net_sheets.proofs.text.put.copy.Tie as tie

@@ -1,9 +1,6 @@
 -- `table_reader::fast::due_row::are_levels` meets its contract. The loop's invariant: i levels are read, two bytes each.
 -- Assumes nothing.
-use Prim.Native.Nat.{_+_, _-_, _*_, _<_}
-use mathlib.Core.Path.{_≡_, sym, _∙_}
-use native.Mathlib.Omega.{arith}
-use lib.ListN.{length, getD}
+use Rattle.laws.specs.Prelude.{_<_, _+_, _-_, _*_, _≡_, _∙_, sym, arith, length, getD}
 use Rattle.rules.specs.Text.{spaceByte}
 use Rattle.table_reader.specs.Row.{InRow, row-start}
 use Rattle.table_reader.specs.Fast.Due.{not-due, table-levels-next, levels-done}
@@ -63,8 +60,11 @@ plain c =
 
 loop-again : tie.Need-loop-again Inv-loop μ-loop
 loop-again c =
-    let turn = at-turn (at-level c) in
-    (omega (arith, turn .before .loop .inv .0), table-levels-next _ _ _ _ _ _ (at-start (turn .before) .pre .0) (turn .before .loop .inv .1) (turn .loop-test .taken) (plain c))
+    let turn = at-turn (at-level c) in (
+      omega (arith, turn .before .loop .inv .0),
+      table-levels-next _ _ _ _ _ _ (at-start (turn .before) .pre .0) (turn .before .loop .inv .1)
+          (turn .loop-test .taken) (plain c),
+    )
 
 returns-2 : tie.Need-returns-2 Inv-loop μ-loop
 returns-2 c e =

@@ -1,10 +1,6 @@
 -- `table_reader::fast::due_row::are_wide` meets its contract: every level is in one of the three words.
 -- Assumes nothing.
-use Prim.Native.Nat.{_+_, _-_, _*_, _≤_}
-use native.Mathlib.Omega.{arith}
-use mathlib.Core.Path.{_≡_, sym, ap, _∙_}
-use borrow.Author.Needs.{needs}
-use borrow.Author.Tests.{eqb-true}
+use Rattle.laws.specs.Prelude.{_≤_, _+_, _-_, _*_, _≡_, _∙_, sym, ap, arith, eqb-true, needs}
 use Rattle.table_reader.specs.Fast.Words.{wordAt, middle-near}
 use Rattle.table_reader.specs.Fast.Due.{not-due}
 use Rattle.table_reader.specs.Fast.Stand.{wide-stand}
@@ -52,7 +48,8 @@ returns-3 c e =
     let p = place-of first in
     let s = start p in
     let zero : s .args .at ≡ s .args .at + 2 * 0 = omega arith in
-    wide-stand (s .args .s .now) (s .args .levels .now) (s .args .at) (s .args .front) (s .args .words) (s .pre .0) (s .pre .1) (s .pre .2) (s .pre .3) (s .pre .4)
+    wide-stand (s .args .s .now) (s .args .levels .now) (s .args .at) (s .args .front) (s .args .words) (s .pre .0) (s .pre .1) (s .pre .2) (s .pre .3)
+    (s .pre .4)
     (s .pre .5 (s .pre .0)) (λ k. omega (arith, p .before .before .shared-slice-known .given k))
     (ap (wordAt (s .args .s .now)) (sym zero) ∙ sym (first .eight-bytes .ensures) ∙ branch .if1 .left)
     (ap (λ q. wordAt (s .args .s .now) (s .args .at + 2 * q)) (sym (p .middle-of .ensures)) ∙ sym (middle .eight-bytes2 .ensures) ∙ second .if2 .left)
@@ -60,6 +57,5 @@ returns-3 c e =
 
 pub are-wide-spec : {M : Type 1} → statement M
 are-wide-spec =
-    tie.close
-    (tie.spec (λ c κs. search needs) (λ c κs. search needs) returns mul-eight-bytes add-eight-bytes eight-bytes-requires-2 returns-2
+    tie.close (tie.spec (λ c κs. search needs) (λ c κs. search needs) returns mul-eight-bytes add-eight-bytes eight-bytes-requires-2 returns-2
     (λ c. search needs) (λ c. search needs) (λ c. search needs) (λ c κs. search needs) returns-3)

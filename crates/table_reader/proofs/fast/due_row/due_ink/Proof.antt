@@ -1,77 +1,81 @@
 -- `table_reader::fast::due_row::due_ink` meets its contract: it finds nothing, or has compared all bytes of the row.
 -- Assumes nothing.
-use Prim.Native.Nat.{_+_, _*_, _<_}
-use mathlib.Core.Path.{_≡_, sym, _∙_}
-use native.Mathlib.Omega.{arith}
-use borrow.Author.Needs.{needs}
-use borrow.Author.Tests.{not-false}
-use lib.ListN.{take}
+use Rattle.laws.specs.Prelude.{ℕ, _<_, _+_, _*_, _≡_, _∙_, sym, List, [], _∷_, _++_, arith, getD, take, not-false, needs}
 use Rattle.rules.specs.Text.{spaceByte, newlineByte, openByte}
 use Rattle.table_reader.specs.Fast.Plain.{OneByte, Plain, two-plain, two-bytes-are}
+use Rattle.table_reader.specs.Fast.Stand.{small}
+use Rattle.table_reader.specs.Fast.Words.{pairAt, duePair}
 use Rattle.table_reader.specs.Inks.{no-ink, same-ink}
-use Rattle.table_reader.specs.Fast.Due.{LevelsStand, due-row, open-row}
+use Rattle.table_reader.specs.Fast.Due.{LevelsStand, all-levels, due-row, open-row}
 use Rattle.table_reader.proofs.fast.due_row.due_ink.Statement.{statement}
 use Rattle.table_reader.proofs.fast.due_row.due_ink.Tie as tie
 
--- gets the start from the test of the levels, that test from the last level, and that from the ink
-abbrev at-start : tie.Else1 → tie.Start
-at-start c = c .before .before .before .before
-
-abbrev at-last : tie.After-two-bytes2 → tie.Else2
-at-last c = c .before
-
+-- gets the test of the first levels from that of the last two, and the start
 abbrev at-levels : tie.Else2 → tie.Else1
 at-levels c = c .before .before
 
-returns : tie.Need-returns
-returns c ink e = no-ink ink e
+abbrev start : tie.Else2 → tie.Start
+start c = at-levels c .before .before .before .before
 
-returns-2 : tie.Need-returns-2
-returns-2 c ink e = no-ink ink e
+-- where the last two levels are, and the levels before the last
+abbrev end : tie.Else2 → ℕ
+end c = start c .args .at + 2 * start c .args .front
 
--- the last level and the ink, by their bytes
-level : (c : tie.Else2) → Plain (at-start (at-levels c) .args .s .now) (at-start (at-levels c) .args .at + 2 * at-start (at-levels c) .args .front) (at-start (at-levels c) .args .last) spaceByte
-level c =
-    let start = at-start (at-levels c) in
-    let bytes = c .before .two-bytes .ensures in
-    two-plain _ _ _ spaceByte (omega (arith, start .pre)) (bytes .1) (start .pre .2) (sym (bytes .0) ∙ c .if2 .left)
+abbrev shared : tie.Else2 → List ℕ
+shared c = take (start c .args .front) (start c .args .levels .now) ++ (start c .args .before ∷ [])
 
--- the levels before it
-levels : (c : tie.Else2)
-    → LevelsStand (at-start (at-levels c) .args .s .now) (at-start (at-levels c) .args .at) (take (at-start (at-levels c) .args .front) (at-start (at-levels c) .args .levels .now)) (at-start (at-levels c) .args .at + 2 * at-start (at-levels c) .args .front)
-levels c = at-levels c .before .levels-due .ensures (not-false _ (at-levels c .if1 .left))
+byte : (c : tie.Else2) (k : ℕ) → getD (start c .args .s .now) k 0 < 256
+byte c k = omega (arith, at-levels c .before .before .before .shared-slice-known .given k)
+
+pairs : (c : tie.Else2)
+    → (pairAt (start c .args .s .now) (end c) ≡ duePair (start c .args .before)) × (pairAt (start c .args .s .now) (end c + 2) ≡ duePair (start c .args .last))
+pairs c =
+    small _ _ _ _ (omega (arith, byte c (end c), byte c (end c + 1))) (omega (arith, start c .pre .2)) (sym (c .before .four-bytes .ensures .0) ∙ c .if2 .left)
+
+levels : (c : tie.Else2) → LevelsStand (start c .args .s .now) (start c .args .at) (shared c) (end c + 2)
+levels c =
+    let args = start c .args in
+    all-levels (args .s .now) (take (args .front) (args .levels .now)) (args .m) (args .at) (end c) (args .before)
+    (at-levels c .before .levels-due .ensures (not-false _ (at-levels c .if1 .left)))
+    (two-plain _ _ _ spaceByte (omega (arith, start c .pre .5)) (byte c (end c)) (start c .pre .2) (pairs c .0))
+
+level : (c : tie.Else2) → Plain (start c .args .s .now) (end c + 2) (start c .args .last) spaceByte
+level c = two-plain _ _ _ spaceByte (omega (arith, start c .pre .5)) (byte c (end c + 2)) (start c .pre .3) (pairs c .1)
+
+-- the ink's place and the row's end
+there : (c : tie.Else2) → end c + 4 ≡ end c + 2 + 2
+there c = omega arith
+
+all : (c : tie.Else2) → end c + 2 + 2 + 2 ≡ start c .args .at + (2 * start c .args .front + 6)
+all c = omega arith
 
 -- the sign of an open cell
 returns-3 : tie.Need-returns-3
 returns-3 c ink e =
-    let last = at-last (c .before .before) in
-    let start = at-start (at-levels last) in
-    let bytes = c .before .before .two-bytes2 .ensures in
-    let sign : OneByte (start .args .s .now) (start .args .at + 2 * start .args .front + 2) openByte newlineByte =
-    two-bytes-are _ _ _ newlineByte (omega (arith, start .pre)) (bytes .1) (omega arith) (sym (bytes .0) ∙ c .if4 .taken) in
-    let all : start .args .at + 2 * start .args .front + 2 + 2 ≡ start .args .at + (2 * start .args .front + 4) = omega arith in
-    rw all at (open-row (start .args .s .now) (take (start .args .front) (start .args .levels .now)) (start .args .m) (start .args .at) (start .args .at + 2 * start .args .front) (start .args .last) (levels last) (level last) ink sign (same-ink _ ink e))
-
-returns-4 : tie.Need-returns-4
-returns-4 c ink e = no-ink ink e
-
-returns-5 : tie.Need-returns-5
-returns-5 c ink e = no-ink ink e
+    let last = c .before .before in
+    let bytes = c .before .two-bytes .ensures in
+    let args = start last .args in
+    let sign : OneByte (args .s .now) (end last + 4) openByte newlineByte =
+    two-bytes-are _ _ _ newlineByte (omega (arith, start last .pre .5)) (bytes .1) (omega arith) (sym (bytes .0) ∙ c .if3 .taken) in
+    rw (all last) at (open-row (args .s .now) (shared last) (args .m) (args .at) (end last + 2) (args .last) (levels last) (level last) ink
+    (rw (there last) at sign) (same-ink _ ink e))
 
 returns-6 : tie.Need-returns-6
 returns-6 c ink e =
-    let last = at-last (c .before .before) in
-    let start = at-start (at-levels last) in
-    let bytes = c .before .before .two-bytes2 .ensures in
+    let two = c .before .before .before in
+    let last = two .before in
+    let bytes = two .two-bytes .ensures in
+    let args = start last .args in
     let is = same-ink _ ink e in
-    let below : ink < start .args .m = omega (arith, c .if5 .left) in
-    let digit : Plain (start .args .s .now) (start .args .at + 2 * start .args .front + 2) ink newlineByte =
-    two-plain _ _ _ newlineByte (omega (arith, start .pre)) (bytes .1) (omega (arith, start .pre .3)) (omega (arith, bytes .0, c .before .if3 .left)) in
-    let all : start .args .at + 2 * start .args .front + 2 + 2 ≡ start .args .at + (2 * start .args .front + 4) = omega arith in
-    rw all at (due-row (start .args .s .now) (take (start .args .front) (start .args .levels .now)) (start .args .m) (start .args .at) (start .args .at + 2 * start .args .front) (start .args .last) (levels last) (level last) ink digit below)
+    let below : ink < args .m = omega (arith, c .if5 .left) in
+    let digit : Plain (args .s .now) (end last + 4) ink newlineByte =
+    two-plain _ _ _ newlineByte (omega (arith, start last .pre .5)) (bytes .1) (omega (arith, start last .pre .4))
+    (omega (arith, bytes .0, c .before .if4 .left)) in
+    rw (all last) at (due-row (args .s .now) (shared last) (args .m) (args .at) (end last + 2) (args .last) (levels last) (level last) ink
+    (rw (there last) at digit) below)
 
 pub due-ink-spec : {M : Type 1} → statement M
 due-ink-spec =
-    tie.close
-    (tie.spec (λ c κs. search needs) returns (λ c. search needs) (λ c. search needs) (λ c κs. search needs) (λ c. search needs) returns-2
-    (λ c. search needs) (λ c κs. search needs) returns-3 returns-4 returns-5 returns-6)
+    tie.close (tie.spec (λ c κs. search needs) (λ c ink e. no-ink ink e) (λ c. search needs) (λ c. search needs) (λ c κs. search needs) (λ c. search needs)
+    (λ c. search needs) (λ c. search needs) (λ c. search needs) (λ c ink e. no-ink ink e) (λ c. search needs) (λ c κs. search needs) returns-3
+    (λ c ink e. no-ink ink e) (λ c ink e. no-ink ink e) returns-6)

@@ -1,9 +1,6 @@
 -- `table_reader::fast::words::due_two` meets its contract: a level is a byte.
 -- Assumes nothing.
-use Prim.Native.Nat.{_+_, _<_}
-use native.Mathlib.Omega.{arith}
-use borrow.Author.Needs.{needs}
-use lib.ListN.{getD}
+use Rattle.laws.specs.Prelude.{_<_, _+_, arith, getD, needs}
 use Rattle.table_reader.proofs.fast.words.due_two.Statement.{statement}
 use Rattle.table_reader.proofs.fast.words.due_two.Tie as tie
 

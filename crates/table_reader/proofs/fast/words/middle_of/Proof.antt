@@ -1,8 +1,6 @@
 -- `table_reader::fast::words::middle_of` meets its contract.
 -- Assumes nothing.
-use mathlib.Core.Path.{refl}
-use borrow.Author.Needs.{needs}
-use borrow.Author.Tests.{lt-ltb, le-ltb}
+use Rattle.laws.specs.Prelude.{refl, lt-ltb, le-ltb, needs}
 use Rattle.table_reader.specs.Fast.Words.{middleOf}
 use Rattle.table_reader.proofs.fast.words.middle_of.Statement.{statement}
 use Rattle.table_reader.proofs.fast.words.middle_of.Tie as tie

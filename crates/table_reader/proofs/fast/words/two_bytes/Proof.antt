@@ -1,10 +1,6 @@
 -- `table_reader::fast::words::two_bytes` meets its contract: each is a byte.
 -- Assumes nothing.
-use Prim.Native.Nat.{_+_, _<_}
-use borrow.Author.Needs.{needs}
-use native.Mathlib.Omega.{arith}
-use mathlib.Core.Path.{refl}
-use lib.ListN.{getD}
+use Rattle.laws.specs.Prelude.{_<_, _+_, refl, arith, getD, needs}
 use Rattle.table_reader.proofs.fast.words.two_bytes.Statement.{statement}
 use Rattle.table_reader.proofs.fast.words.two_bytes.Tie as tie
 

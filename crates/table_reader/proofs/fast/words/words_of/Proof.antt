@@ -1,8 +1,6 @@
 -- `table_reader::fast::words::words_of` meets its contract.
 -- Assumes nothing.
-use native.Mathlib.Omega.{arith}
-use mathlib.Core.Path.{ap, _∙_}
-use borrow.Author.Needs.{needs}
+use Rattle.laws.specs.Prelude.{_∙_, ap, arith, needs}
 use Rattle.table_reader.specs.Fast.Words.{dueWord, middle-near}
 use Rattle.table_reader.proofs.fast.words.words_of.Statement.{statement}
 use Rattle.table_reader.proofs.fast.words.words_of.Tie as tie

@@ -1,11 +1,7 @@
 -- `tree_counts::fast::full::keep_full` meets its contract. The loop's invariant: the recorded counts are right, and the parts passed have mark 2, so
 -- the next one, if it has mark 2, is full. Assumes nothing.
-use Prim.Native.Nat.{ℕ, _-_, _^_, _≤_, _<_}
-use mathlib.Core.Path.{_≡_, refl, ap, _∙_}
-use mathlib.Core.List.{List}
-use native.Mathlib.Omega.{arith}
+use Rattle.laws.specs.Prelude.{ℕ, _<_, _≤_, _-_, _^_, _≡_, _∙_, ap, refl, List, arith, length, length-set}
 use lib.Bits.{and-self}
-use lib.ListN.{length, length-set}
 use Rattle.rules.specs.Limits.{mostInputs}
 use Rattle.rules.specs.Groups.Marks.{markIn}
 use Rattle.trees.specs.Groups.Members.{size-le}
@@ -126,7 +122,5 @@ returns-2 c = c .before .loop .inv .1
 
 pub keep-full-spec : {M : Type 1} → statement M
 keep-full-spec =
-    tie.close
-    (tie.spec Inv-loop μ-loop loop-holds next-part-requires (λ c κs. omega (arith, part-le c, group (t c) .marked)) same-length returns
-    members-of-requires trees-on-requires (λ c. omega (arith, small (at-next c))) (λ c. has-room c) loop-less loop-again same-length-2
-    returns-2)
+    tie.close (tie.spec Inv-loop μ-loop loop-holds next-part-requires (λ c κs. omega (arith, part-le c, group (t c) .marked)) same-length returns
+    members-of-requires trees-on-requires (λ c. omega (arith, small (at-next c))) (λ c. has-room c) loop-less loop-again same-length-2 returns-2)

@@ -1,8 +1,5 @@
 -- `tree_counts::fast::full::trees_on` meets its contract: each entry of the table is checked against the rule. Assumes nothing.
-use Prim.Native.Nat.{ℕ}
-use mathlib.Core.Path.{refl}
-use mathlib.Core.List.{List, [], _∷_}
-use borrow.Author.Needs.{needs}
+use Rattle.laws.specs.Prelude.{ℕ, refl, List, [], _∷_, needs}
 use Rattle.rules.specs.Lists.{range, all}
 use Rattle.trees.specs.Families.FamilyBounds.{treesOn}
 use Rattle.tree_counts.specs.Fast.Full.{table-entry}

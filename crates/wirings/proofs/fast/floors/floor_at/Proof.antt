@@ -1,8 +1,5 @@
 -- `wirings::fast::floors::floor_at` meets its contract. Assumes nothing.
-use Prim.Native.Nat.{ℕ}
-use mathlib.Core.Path.{refl, _∙_, subst}
-use mathlib.Core.Logic.{inl, inr}
-use borrow.Author.Needs.{needs}
+use Rattle.laws.specs.Prelude.{ℕ, _∙_, refl, subst, inl, inr, needs}
 use Rattle.wirings.specs.Fast.Floors.{Floor}
 use Rattle.wirings.proofs.fast.floors.floor_at.Statement.{statement}
 use Rattle.wirings.proofs.fast.floors.floor_at.Tie as tie
@@ -23,5 +20,4 @@ returns-3 c two = inl (c .if2 .left, refl)
 
 pub floor-at-spec : {M : Type 1} → statement M
 floor-at-spec =
-    tie.close
-    (tie.spec (λ c κs. search needs) returns (λ c κs. search needs) (λ c κs. search needs) returns-2 returns-3)
+    tie.close (tie.spec (λ c κs. search needs) returns (λ c κs. search needs) (λ c κs. search needs) returns-2 returns-3)

@@ -1,8 +1,6 @@
 -- `wirings::fast::floors::floor_of` meets its contract, by the length of a number in bits. Assumes nothing.
-use Prim.Native.Nat.{_-_}
-use native.Mathlib.Omega.{arith}
+use Rattle.laws.specs.Prelude.{_-_, arith, needs}
 use lib.Count.{leading-le}
-use borrow.Author.Needs.{needs}
 use Rattle.wirings.specs.Fast.Floors.{floor-zeros}
 use Rattle.wirings.proofs.fast.floors.floor_of.Statement.{statement}
 use Rattle.wirings.proofs.fast.floors.floor_of.Tie as tie

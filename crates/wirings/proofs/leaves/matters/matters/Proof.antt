@@ -1,6 +1,5 @@
 -- `wirings::leaves::matters::matters` meets its contract: the blocks are all cells, and show whether the input matters. Assumes nothing.
-use Prim.Native.Nat.{_<_}
-use native.Mathlib.Omega.{arith}
+use Rattle.laws.specs.Prelude.{_<_, arith}
 use Rattle.laws.specs.Numbers.Sizes.{Size, sized}
 use Rattle.wirings.specs.Leaves.Blocks.{run-within, all-cells, block-fits, tell}
 use Rattle.wirings.proofs.leaves.matters.matters.Statement.{statement}

@@ -1,8 +1,5 @@
 -- `wirings::leaves::matters::same_blocks` meets its contract. The loop's invariant: the blocks passed satisfy `SameBlock`. Assumes nothing.
-use Prim.Native.Nat.{ℕ, _+_, _-_, _*_, _≤_, _<_}
-use native.Mathlib.Omega.{arith}
-use lib.ListN.{length}
-use borrow.Author.Tests.{not-true, not-false}
+use Rattle.laws.specs.Prelude.{ℕ, _<_, _≤_, _+_, _-_, _*_, arith, length, not-true, not-false}
 use Rattle.rules.specs.Calls.Answers.{inkIn}
 use Rattle.wirings.specs.Leaves.Runs.{each-next}
 use Rattle.wirings.specs.Leaves.Blocks.{SameBlock, blocks-differ, blocks-same, block-within}

@@ -1,7 +1,5 @@
 -- `wirings::leaves::matters::same_runs` meets its contract. The loop's invariant: the cells passed are the same. Assumes nothing.
-use Prim.Native.Nat.{_+_, _-_, _≤_}
-use native.Mathlib.Omega.{arith}
-use mathlib.Core.Path.{_≡_}
+use Rattle.laws.specs.Prelude.{_≤_, _+_, _-_, _≡_, arith}
 use Rattle.rules.specs.Calls.Answers.{inkIn}
 use Rattle.wirings.specs.Leaves.Runs.{WiringSameRuns, each-next, runs-differ, runs-same}
 use Rattle.wirings.proofs.leaves.matters.same_runs.Statement.{statement}
@@ -37,6 +35,5 @@ returns-2 c =
 
 pub same-runs-spec : {M : Type 1} → statement M
 same-runs-spec =
-    tie.close
-    (tie.spec Inv-loop μ-loop loop-holds (λ c. omega arith) (λ c. omega arith) (λ c. omega arith) (λ c. omega arith) returns
-    (λ c. omega arith) (λ c. omega arith) loop-again returns-2)
+    tie.close (tie.spec Inv-loop μ-loop loop-holds (λ c. omega arith) (λ c. omega arith) (λ c. omega arith) (λ c. omega arith) returns (λ c. omega arith)
+    (λ c. omega arith) loop-again returns-2)

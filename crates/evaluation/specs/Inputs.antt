@@ -1,4 +1,0 @@
-pub mod Laying
-pub mod Places
-pub mod Runs
-pub mod Starts

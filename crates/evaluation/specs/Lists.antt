@@ -1,0 +1,9 @@
+pub mod Runs
+pub mod Painted
+pub mod Pairs
+pub mod Entries
+pub mod Inputs
+pub mod Wires
+pub mod Gates
+pub mod Spread
+pub mod Tables
