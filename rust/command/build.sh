@@ -26,7 +26,7 @@ parallel_checks() {
 memory_folder() {
     local folder room=$((600 * $(parallel_checks)))
     folder=$(mktemp -d /dev/shm/sitgurp.XXXXXX 2>/dev/null) || return 0
-    if [ "$(df -Pm "$folder" | awk 'NR == 2 { print $4 }')" -ge "$room" ] && cp "$(command -v true)" "$folder" && "$folder/true"; then
+    if [ "$(df -Pm "$folder" | awk 'NR == 2 { print $4 }')" -ge "$room" ] && cp "$(type -P true)" "$folder" && "$folder/true"; then
         rm "$folder/true"
         chmod 711 "$folder"
         echo "$folder"
