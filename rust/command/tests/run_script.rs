@@ -2,7 +2,6 @@
 
 use crate::common::{repository, Folder};
 use std::fs;
-use std::os::unix::fs::PermissionsExt;
 use std::path::Path;
 use std::process::{Command, Output};
 
@@ -32,10 +31,17 @@ fn scripts(name: &str, rt: &str) -> Folder {
         .put("bin/rt", rt)
         .put("web/build", WEB_BUILD)
         .put("bin/cargo", CARGO);
-    for file in ["bin/rt", "bin/cargo", "web/build", "run"] {
-        fs::set_permissions(folder.0.join(file), fs::Permissions::from_mode(0o755))
-            .expect("rights");
-    }
+    // Another process writes the files that are run: a file that this process has open for writing is busy as long as a child of another test has it too.
+    let copied = Command::new("sh")
+        .args([
+            "-c",
+            "for file in \"$@\"; do cp \"$file\" copy && chmod 755 copy && mv copy \"$file\"; done",
+            "sh",
+        ])
+        .args(["bin/rt", "bin/cargo", "web/build", "run"])
+        .current_dir(&folder.0)
+        .status();
+    assert!(copied.expect("sh runs").success());
     folder
 }
 
