@@ -7,9 +7,9 @@ is_old() {
 }
 
 # Prints how many crates to prove at once, for a number of cores and of free megabytes. `rt` waits for each batch to end, so a batch has more crates
-# than there are cores. The largest check takes 2.4 GB, and its files 0.6 GB.
+# than there are cores; many more share the caches and take longer. The largest check takes 2.4 GB, and its files 0.6 GB.
 jobs_for() {
-    local by_cores=$(($1 < 4 ? 4 * $1 : 2 * $1)) by_memory=$(($2 / 3000))
+    local by_cores=$(($1 < 4 ? $1 + 1 : 2 * $1)) by_memory=$(($2 / 3000))
     local jobs=$((by_cores < by_memory ? by_cores : by_memory))
     echo $((jobs < 1 ? 1 : jobs))
 }

@@ -166,7 +166,7 @@ fn jobs_for(cores: usize, megabytes: usize) -> usize {
 
 #[test]
 fn cores_and_memory_choose_how_many_crates_are_proved_at_once() {
-    assert_eq!(jobs_for(2, 24_000), 8);
+    assert_eq!(jobs_for(2, 24_000), 3);
     assert_eq!(jobs_for(8, 64_000), 16);
     // each check may take 3 GB with its files
     assert_eq!(jobs_for(2, 8_000), 2);
