@@ -23,6 +23,13 @@ const GROUPS: usize = 1 << 12;
 /// ```
 #[derive(Clone, Debug, PartialEq, Eq)]
 pub struct Job {
+    // on the heap, so that moving a job moves a pointer
+    parts: Box<Parts>,
+}
+
+/// A job's parts, as the calls take them.
+#[derive(Clone, Debug, PartialEq, Eq)]
+struct Parts {
     lines: [u8; LINES],
     cells: [u8; MOST_CELLS],
     marks: [u8; GROUPS],
@@ -32,24 +39,22 @@ pub struct Job {
 impl Job {
     /// A job on a full table sheet. A sheet that is refused, 1 to 6 or 27, opens the empty job beside its refusal.
     pub fn open(sheet: &[u8]) -> (Job, Option<Refusal>) {
-        let mut job = Job {
-            lines: [0; LINES],
-            cells: [0; MOST_CELLS],
-            marks: [0; GROUPS],
-            passed: 0,
-        };
-        // SAFETY: the job's parts have the lengths that the call takes, and do not overlap; other pointers are those of borrowed slices, with their lengths.
+        let mut parts = Box::<Parts>::new_uninit();
+        let to = parts.as_mut_ptr();
+        // SAFETY: the parts have the lengths that the call takes, and do not overlap; other pointers are those of borrowed slices, with their lengths.
         let answer = unsafe {
             ffi::sitgurp_job_open_parts(
                 sheet.as_ptr(),
                 sheet.len(),
-                job.lines.as_mut_ptr(),
-                job.cells.as_mut_ptr(),
-                job.marks.as_mut_ptr(),
-                &mut job.passed,
+                (&raw mut (*to).lines).cast(),
+                (&raw mut (*to).cells).cast(),
+                (&raw mut (*to).marks).cast(),
+                &raw mut (*to).passed,
             )
         };
-        (job, answered(answer, Named::Table, sheet).err())
+        // SAFETY: the call writes every byte of every part, whether it accepts the sheet or refuses it.
+        let parts = unsafe { parts.assume_init() };
+        (Job { parts }, answered(answer, Named::Table, sheet).err())
     }
 
     /// A job on a table sheet that is accepted.
@@ -65,10 +70,10 @@ impl Job {
         // SAFETY: the job's parts have the lengths that the call takes, and do not overlap; other pointers are those of borrowed slices, with their lengths.
         let answer = unsafe {
             ffi::sitgurp_job_step_parts(
-                self.lines.as_ptr(),
-                self.cells.as_ptr(),
-                self.marks.as_mut_ptr(),
-                &mut self.passed,
+                self.parts.lines.as_ptr(),
+                self.parts.cells.as_ptr(),
+                self.parts.marks.as_mut_ptr(),
+                &mut self.parts.passed,
             )
         };
         answered(answer, Named::Neither, &[]).map(|_| ())
@@ -79,9 +84,9 @@ impl Job {
         // SAFETY: the job's parts have the lengths that the call takes, and do not overlap; other pointers are those of borrowed slices, with their lengths.
         let mark = unsafe {
             ffi::sitgurp_job_mark_parts(
-                self.lines.as_ptr(),
-                self.marks.as_ptr(),
-                self.passed,
+                self.parts.lines.as_ptr(),
+                self.parts.marks.as_ptr(),
+                self.parts.passed,
                 group,
             )
         };
@@ -102,9 +107,9 @@ impl Job {
         // SAFETY: the job's parts have the lengths that the call takes, and do not overlap; other pointers are those of borrowed slices, with their lengths.
         let answer = unsafe {
             ffi::sitgurp_job_finish_parts(
-                self.lines.as_ptr(),
-                self.cells.as_ptr(),
-                self.passed,
+                self.parts.lines.as_ptr(),
+                self.parts.cells.as_ptr(),
+                self.parts.passed,
                 cells.as_mut_ptr(),
                 cells.len(),
                 marks.as_mut_ptr(),
@@ -114,7 +119,7 @@ impl Job {
             )
         };
         // the names of 16's group stand in the third of the job's own lines
-        answered(answer, Named::Neither, &self.lines)
+        answered(answer, Named::Neither, &self.parts.lines)
     }
 
     /// The same with buffers that always suffice: the settled net sheet.
@@ -124,7 +129,7 @@ impl Job {
 
     /// How many groups have been passed.
     pub fn passed(&self) -> usize {
-        self.passed
+        self.parts.passed
     }
 
     /// How many groups there are: 2 to the power of its inputs, less 1. An input is a group of one, which the job knows.
@@ -135,12 +140,12 @@ impl Job {
 
     /// How many groups are still to go.
     pub fn to_go(&self) -> usize {
-        self.groups().saturating_sub(self.passed)
+        self.groups().saturating_sub(self.parts.passed)
     }
 
     /// Every group's mark at its number, 0 where it has not been passed.
     pub fn marks(&self) -> &[u8] {
-        &self.marks[..=self.groups()]
+        &self.parts.marks[..=self.groups()]
     }
 
     /// The groups that are still to go with their marks, each as it is passed: every turn is a step.
@@ -163,7 +168,8 @@ impl Iterator for Passing<'_> {
     fn next(&mut self) -> Option<(usize, u8)> {
         self.job.step().ok()?;
         self.left -= 1;
-        Some((self.job.passed, self.job.marks[self.job.passed]))
+        let parts = &self.job.parts;
+        Some((parts.passed, parts.marks[parts.passed]))
     }
 
     fn size_hint(&self) -> (usize, Option<usize>) {
