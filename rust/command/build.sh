@@ -21,6 +21,15 @@ parallel_checks() {
     echo "${RT_JOBS:-$(jobs_for "$(nproc)" "${megabytes:-3000}")}"
 }
 
+# Prints how many must-fail edits to try at once on this machine: no more than cores. The edits of a crate take about the same time, so no core waits for
+# long, and fewer checks at once share the caches better. RT_JOBS overrides it.
+parallel_edits() {
+    local jobs cores
+    jobs=$(parallel_checks)
+    cores=$(nproc)
+    echo "${RT_JOBS:-$((jobs < cores ? jobs : cores))}"
+}
+
 # Prints a new folder in memory, or nothing if there is none with room for the files of every check at once. Programs must be allowed to run there: `rt`
 # runs the proved ones from it, as another user.
 memory_folder() {
@@ -36,14 +45,14 @@ memory_folder() {
 }
 
 # Runs a command with its temporary files in memory if possible, and else where they would be. Each check writes thousands of small files and removes
-# them; on a disk that can take a third of its time.
+# them; on a disk that can take a third of its time. The prover's allocator keeps memory that it has freed, which it would else ask for again.
 in_memory() (
     folder=
     if [ -z "${TMPDIR:-}" ]; then
         folder=$(memory_folder)
         trap '[ -z "$folder" ] || rm -rf "$folder"' EXIT
     fi
-    TMPDIR=${folder:-${TMPDIR:-/tmp}} "$@"
+    TMPDIR=${folder:-${TMPDIR:-/tmp}} MIMALLOC_PURGE_DELAY=${MIMALLOC_PURGE_DELAY:--1} "$@"
 )
 
 # Prints how many crates of crates.txt a crate uses, directly or not, itself included.

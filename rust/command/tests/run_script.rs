@@ -175,6 +175,19 @@ fn cores_and_memory_choose_how_many_crates_are_proved_at_once() {
 }
 
 #[test]
+fn no_more_edits_are_tried_at_once_than_there_are_cores() {
+    let ended = after_build_script("unset RT_JOBS; nproc; parallel_edits", None);
+    let said = String::from_utf8_lossy(&ended.stdout).into_owned();
+    let numbers: Vec<usize> = said.lines().map(|line| line.parse().unwrap()).collect();
+    assert!(
+        numbers.len() == 2 && (1..=numbers[0]).contains(&numbers[1]),
+        "{said}"
+    );
+    let ended = after_build_script("RT_JOBS=9; parallel_edits", None);
+    assert_eq!(String::from_utf8_lossy(&ended.stdout).trim(), "9");
+}
+
+#[test]
 fn the_prover_has_its_files_in_a_folder_that_is_gone_afterwards() {
     let line = "in_memory sh -c 'echo \"$TMPDIR\"; touch \"$TMPDIR/sitgurp.test.$$\" && rm \"$TMPDIR/sitgurp.test.$$\" && exit 3'";
     let ended = after_build_script(line, None);
