@@ -6,10 +6,10 @@ use Rattle.rules.specs.Sheets.Sheets.{Net}
 use Rattle.rules.specs.Calls.Answers.{Answer, accepted, refused, onward}
 use Rattle.rules.specs.Sheets.Reading.{readNet}
 use Rattle.rules.specs.Calls.Lister.{lineLength, Turn, gateAt, noneLeft, turnOf, listing}
-use Rattle.net_sheets.specs.Lister.Calls.{opening}
-use Rattle.net_sheets.specs.Lister.Places.{standsAt, lineAfter}
-use Rattle.net_sheets.specs.Lister.Turns.{turnAt, turnIn}
-use Rattle.net_sheets.specs.Lister.Standing.{stands-next, turn-stands}
+use Rattle.lister.specs.Calls.{opening}
+use Rattle.lister.specs.Places.{standsAt, lineAfter}
+use Rattle.lister.specs.Turns.{turnAt, turnIn}
+use Rattle.lister.specs.Standing.{stands-next, turn-stands}
 use Rattle.capi.specs.declared.numbers.line.SitgurpLine.{SitgurpLine}
 use Rattle.capi.specs.declared.numbers.turn.SitgurpTurn.{SitgurpTurn}
 use Rattle.capi.specs.Numbers.Turn.{flatTurn}

@@ -10,5 +10,5 @@ use crate::numbers::turn::flat_turn;
 pub extern "C" fn sitgurp_gate_line(sheet: &[u8], k: usize) -> SitgurpTurn
     ensures { λ r. ⌜ r ≡ flatTurn (listing (now (sheet .entry)) k) ⌝ }
 {
-    flat_turn(net_sheets::lister::calls::line(sheet, k))
+    flat_turn(lister::calls::line(sheet, k))
 }

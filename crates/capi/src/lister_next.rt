@@ -2,8 +2,8 @@
 ghost use mathlib.Core.Path.{_≡_};
 ghost use Rattle.capi.specs.Lister.{lineFrom};
 use crate::numbers::line::SitgurpLine;
-use net_sheets::lister::places::line_end;
-use net_sheets::lister::places::past_feed;
+use lister::places::line_end;
+use lister::places::past_feed;
 
 // Returns the line that starts at byte `at`, and the position of the line after it. Reads no byte before `at`.
 #[no_mangle]

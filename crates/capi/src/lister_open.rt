@@ -1,6 +1,6 @@
 // Opening a gate lister, for C.
 ghost use mathlib.Core.Path.{_≡_};
-ghost use Rattle.net_sheets.specs.Lister.Calls.{opening};
+ghost use Rattle.lister.specs.Calls.{opening};
 ghost use Rattle.capi.specs.Numbers.Flat.{flatOf};
 use crate::numbers::flat::SitgurpAnswer;
 use crate::numbers::opened::flat_opened;
@@ -10,5 +10,5 @@ use crate::numbers::opened::flat_opened;
 pub extern "C" fn sitgurp_lister_open(sheet: &[u8]) -> SitgurpAnswer
     ensures { λ r. ⌜ r ≡ flatOf (opening (now (sheet .entry))) ⌝ }
 {
-    flat_opened(net_sheets::lister::calls::open(sheet))
+    flat_opened(lister::calls::open(sheet))
 }

@@ -1,3 +1,2 @@
 pub mod KeptChains
-pub mod KeyMaking
 pub mod Sames

@@ -1,6 +1,7 @@
 -- Chains of kept assignments. A head or a link is 1 more than a place, and 0 ends the chain; a link leads to an earlier place.
 -- Assumes nothing.
 use Rattle.laws.specs.Prelude.{ℕ, _<_, _≤_, _+_, suc, zero, _≡_, _∙_, sym, ap, refl, subst, true, false, Bool, true≢false, List, arith, getD, replicate}
+use Rattle.laws.specs.Lists.Tests.{not-true-false}
 
 -- place j is in the chain that starts at a head
 pub data InChain (links : List ℕ) (j : ℕ) : ℕ → Type 0 where
@@ -43,12 +44,8 @@ module _ (test : ℕ → Bool) (xs links : List ℕ) (head : ℕ) where
   search-found i low passes = record { found = λ _. record { place = i; below = low; passes = passes }; missed = λ e. absurd (true≢false e) }
 
   pub search-missed : (at : ℕ) → at ≡ 0 → Rest at → Searched test xs links head false
-  search-missed at e rest = record { found = λ h. absurd (true≢false (sym h)); missed = λ _ j chain. go j chain (test (getD xs j 0)) refl }
+  search-missed at e rest = record { found = λ h. absurd (true≢false (sym h)); missed = λ _ j chain. not-true-false _ (λ e. ended j (rest j chain e)) }
     where
       ended : (j : ℕ) → InChain links j at → ⊥
       ended j (here _ h) = omega arith
       ended j (later _ k h on) = omega arith
-
-      go : (j : ℕ) → InChain links j head → (b : Bool) → test (getD xs j 0) ≡ b → test (getD xs j 0) ≡ false
-      go j chain false fails = fails
-      go j chain true passes = absurd (ended j (rest j chain passes))

@@ -8,7 +8,27 @@ use Rattle.rules.specs.Groups.Groups.{alikeOver, firsts}
 use Rattle.classes.specs.Firsts.{classesOver, firsts-known, firsts-new, firsts-front}
 use Rattle.laws.specs.Lists.Walks.{rest}
 use Rattle.radix.specs.Fronts.{Front}
+use Rattle.rules.specs.Limits.{mostCells}
+use Rattle.classes.specs.Chains.{NoChains}
+use Rattle.classes.specs.Keys.{keyBound}
 use Rattle.classes.specs.Within.{Within}
+
+-- what holds for a list's elements holds after a store if it holds for what is stored
+pub by-set : (P : ℕ → Type 0) (l : List ℕ) (i v j : ℕ) → i < length l → (j ≡ i → P v) → ((j ≡ i → ⊥) → P (getD l j 0)) → P (getD (set l i v) j 0)
+by-set P l i v j room at other = go (ℕ-discrete j i)
+  where
+    go : Dec (j ≡ i) → P (getD (set l i v) j 0)
+    go (yes e) = subst⁻¹ P (ap (λ (k : ℕ). getD (set l i v) k 0) e ∙ getD-set-same l i v 0 room) (at e)
+    go (no ne) = subst⁻¹ P (getD-set-other l i j v 0 ne) (other ne)
+
+-- room for `enough` classes and for keys, no chains yet, and every assignment inside the cells
+pub record Ready (cells xs ys : List ℕ) (enough : ℕ) (firsts links heads : List ℕ) : Type 0 where
+  pub for-firsts : enough ≤ length firsts
+  pub for-links : enough ≤ length links
+  pub few : enough ≤ mostCells
+  pub no-chains : NoChains heads
+  pub for-keys : keyBound ≤ length heads
+  pub inside : (i : ℕ) → i < length xs → Within (length cells) ys (getD xs i 0)
 
 module _ (f : ℕ → ℕ) (b : ℕ) (ys xs : List ℕ) (enough : ℕ) where
   -- what is kept before assignment i is visited
@@ -76,14 +96,8 @@ module _ {f : ℕ → ℕ} {b : ℕ} {ys xs : List ℕ} {enough : ℕ} {fs : Lis
             left = ap (λ (l : List ℕ). firsts (alikeOver f ys) l (drop (i + 1) xs))
                 (ap (λ (j : ℕ). take j (set fs count (getD xs i 0))) (add-one count) ∙ take-suc-set fs count (getD xs i 0) (omega (arith, kept .room)))
                 ∙ joins;
-            inside = λ j l. at j l (ℕ-discrete j count);
+            inside = λ j l. by-set (Within b ys) fs count (getD xs i 0) j (omega (arith, kept .room)) (λ _. w) (λ ne. kept .inside j (omega (arith, ne)));
           }
-        where
-          at : (j : ℕ) → j < count + 1 → Dec (j ≡ count) → Within b ys (getD (set fs count (getD xs i 0)) j 0)
-          at j l (yes e) =
-              subst⁻¹ (Within b ys)
-              (ap (λ (j : ℕ). getD (set fs count (getD xs i 0)) j 0) e ∙ getD-set-same fs count (getD xs i 0) 0 (omega (arith, kept .room))) w
-          at j l (no ne) = subst⁻¹ (Within b ys) (getD-set-other fs count j (getD xs i 0) 0 ne) (kept .inside j (omega arith))
 
 -- the first assignment
 pub firsts-found-one : (f : ℕ → ℕ) (b : ℕ) (ys xs : List ℕ) (enough : ℕ) (fs : List ℕ) → 0 < enough → enough ≤ length fs → 0 < length xs → Within

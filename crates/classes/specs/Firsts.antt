@@ -1,13 +1,13 @@
 -- The first of each class, found one assignment at a time.
 -- Assumes nothing.
-use Rattle.laws.specs.Prelude.{ℕ, _<_, _≤_, _+_, _^_, suc, _≡_, _∙_, sym, ap, refl, subst, ap₂, true, false, Bool, List, [], _∷_, _++_, zero-add, le-trans}
+use Rattle.laws.specs.Prelude.{ℕ, _<_, _≤_, _+_, _-_, _^_, suc, _≡_, _∙_, sym, ap, refl, subst, ap₂, true, false, Bool, List, [], _∷_, _++_, zero-add, le-trans}
 use Rattle.laws.specs.Prelude.{decLt, arith, ltb, length, getD, take, length-append, length-take, length-take-le, getD-take, take-at, take-all, take-take}
 use Rattle.laws.specs.Prelude.{take-length, lt-ltb, le-ltb}
 use Rattle.rules.specs.Lists.{any, firstPlace}
 use Rattle.rules.specs.Groups.Groups.{size, others, points, alikeOver, firsts, classes}
 use Rattle.laws.specs.Lists.FirstPlaces.{any-place}
 use Rattle.cells.specs.Bound.{first-is}
-use Rattle.radix.specs.Fronts.{Front}
+use Rattle.radix.specs.Fronts.{Front, part-is}
 use Rattle.trees.specs.Groups.Points.{points-length}
 
 -- the first of each class of the assignments xs; ys are the assignments of the other inputs
@@ -15,9 +15,12 @@ unfoldable pub classesOver : (ℕ → ℕ) → List ℕ → List ℕ → List �
 classesOver f ys xs = firsts (alikeOver f ys) [] xs
 
 -- the lists of the assignments of a group and of the other inputs give the group's classes
-pub group-over : (m n g : ℕ) (f : ℕ → ℕ) (xs ys : List ℕ) → xs ≡ points m n g → ys ≡ points m n (others n g) → classesOver f ys xs ≡ classes m n f g
+pub group-front : (m n g : ℕ) (f : ℕ → ℕ) {xs ys : List ℕ} {own other : ℕ} → Front (points m n g) own xs → Front (points m n (others n g)) other ys
+    → (enough : ℕ) {r : ℕ} {fs : List ℕ} → Front (take enough (classesOver f (take (other - 0) ys) (take (own - 0) xs))) r fs
+    → Front (take enough (classes m n f g)) r fs
 unfolding classesOver classes
-group-over m n g f xs ys e h = ap₂ (λ (us vs : List ℕ). classesOver f us vs) h e
+group-front m n g f own other enough {r} {fs} found =
+    subst (λ (l : List ℕ). Front (take enough l) r fs) (ap₂ (λ (us vs : List ℕ). classesOver f us vs) (part-is other) (part-is own)) found
 
 -- the first that passes among the first `count` of a list: none before j passes, and the one at j does unless j is the end
 pub search-is : (test : ℕ → Bool) (xs : List ℕ) (count j : ℕ) → count ≤ length xs → j ≤ count → ((p : ℕ) → p < j → test (getD xs p 0) ≡ false)

@@ -1,7 +1,9 @@
 -- A key of an assignment: a number made of its inks at some assignments of the other inputs. Alike assignments have the same key, so only those with
 -- the same key are compared.
 -- Assumes nothing.
-use Rattle.laws.specs.Prelude.{ℕ, _<_, _≤_, _+_, suc, _*_, zero, _%_, _≡_, _∙_, ap, refl, true, List, [], _∷_, arith, take, eqb-true}
+use Rattle.laws.specs.Prelude.{ℕ, _<_, _≤_, _+_, suc, _*_, zero, _%_, _≡_, _∙_, ap, refl, true, List, [], _∷_, arith, length, getD, take, drop}
+use Rattle.laws.specs.Prelude.{eqb-true}
+use Rattle.laws.specs.Lists.Walks.{rest}
 use Rattle.rules.specs.Groups.Groups.{alikeOver}
 use Rattle.laws.specs.Lists.Tests.{all-iff}
 
@@ -13,6 +15,12 @@ keyBound = 256
 unfoldable pub keyFrom : ℕ → (ℕ → ℕ) → ℕ → ℕ → List ℕ → ℕ
 keyFrom m f p key [] = key
 keyFrom m f p key (y ∷ ys) = keyFrom m f p ((key * m + f (p + y)) % 256) ys
+
+-- one more column
+pub key-next : (m : ℕ) (f : ℕ → ℕ) (p key : ℕ) (ys : List ℕ) (k : ℕ) → k < length ys
+    → keyFrom m f p ((key * m + f (p + getD ys k 0)) % 256) (drop (k + 1) ys) ≡ keyFrom m f p key (drop k ys)
+unfolding keyFrom
+key-next m f p key ys k h = rw (rest ys k h)
 
 -- the key of p over the first `width` of the columns ys
 unfoldable pub keyOf : ℕ → (ℕ → ℕ) → List ℕ → ℕ → ℕ → ℕ
@@ -51,12 +59,3 @@ module _ (m : ℕ) (f : ℕ → ℕ) where
 -- every key is below the number of heads
 abbrev pub Keys : ℕ → (ℕ → ℕ) → List ℕ → ℕ → ℕ → Type 0
 Keys m f ys width heads = (p : ℕ) → keyOf m f ys width p < heads
-
--- enough heads for keys of at most `columns` columns: one if there are no columns
-pub record HeadsFor (columns heads : ℕ) : Type 0 where
-  pub one : 0 < heads
-  pub all : 0 < columns → keyBound ≤ heads
-
-pub heads-enough : (m : ℕ) (f : ℕ → ℕ) (ys : List ℕ) (width columns heads : ℕ) → HeadsFor columns heads → width ≤ columns → Keys m f ys width heads
-heads-enough m f ys zero columns heads room low p = omega (arith, room .one, key-none m f ys p)
-heads-enough m f ys (suc width) columns heads room low p = omega (arith, room .all (omega arith), key-below m f ys (suc width) p)

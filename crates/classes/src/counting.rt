@@ -4,12 +4,12 @@ ghost use Prim.Native.Nat.{ℕ, _^_, _≤_, _<_};
 ghost use lib.Dec.{ltb};
 ghost use lib.ListN.{length, take, getD};
 ghost use Rattle.rules.specs.Limits.{mostCells, mostLevels};
-ghost use Rattle.rules.specs.Groups.Groups.{classes, multiplicity};
+ghost use Rattle.rules.specs.Groups.Groups.{points, others, multiplicity};
 ghost use Rattle.rules.specs.Calls.Answers.{inkIn};
 ghost use Rattle.radix.specs.Fronts.{Front};
 ghost use Rattle.classes.specs.Firsts.{classesOver};
 ghost use Rattle.classes.specs.Chains.{NoChains};
-ghost use Rattle.classes.specs.Keys.{HeadsFor, Keys};
+ghost use Rattle.classes.specs.Keys.{Keys};
 ghost use Rattle.classes.specs.Within.{Within, OffsetRoom, GroupRoom};
 use crate::keys;
 use radix::limits::MOST_LEVELS;
@@ -18,7 +18,7 @@ use radix::powers;
 
 // Puts the first of each class among the assignments xs to the front of `firsts`, stops at `enough` of them, and returns how many it put. `heads` and
 // `links` store the chains of these, by their keys over the first `width` columns.
-fn class_firsts(
+pub fn class_firsts(
     m: usize,
     cells: &[u8],
     xs: &[u16],
@@ -56,39 +56,20 @@ fn class_firsts(
     count
 }
 
-// Puts the first of each class of group g to the front of `firsts`, stops at `enough` of them, and returns how many it put. `xs`, `ys`, `links` and
-// `heads` are work arrays. A key has at most `columns` columns: many if many classes are expected, 0 for a single chain.
-pub fn group_firsts(
-    m: usize,
-    n: usize,
-    cells: &[u8],
-    g: usize,
-    columns: usize,
-    enough: usize,
-    xs: &mut [u16],
-    ys: &mut [u16],
-    firsts: &mut [u16],
-    links: &mut [u16],
-    heads: &mut [u16],
-) -> usize
-    requires { ⌜ (GroupRoom m n g (now cells) (now xs) (now ys)) × (m ≤ mostLevels) × (enough ≤ length (now firsts)) × (enough ≤ length (now links))
-        × (enough ≤ mostCells) × NoChains (now heads) × (HeadsFor columns (length (now heads))) × (g < 2 ^ n) ⌝ }
-    ensures { λ r. ⌜ Front (take enough (classes m n (inkIn (now (cells .entry))) g)) r (now (firsts .exit)) ⌝ }
+// How many assignments a group has, and how many the other inputs have.
+pub struct Counts {
+    pub own: usize,
+    pub other: usize,
+}
+
+// Writes the assignments of group g to the front of `xs` and those of the other inputs to the front of `ys`, and returns how many there are.
+pub fn group_offsets(m: usize, n: usize, g: usize, xs: &mut [u16], ys: &mut [u16]) -> Counts
+    requires { ⌜ (GroupRoom m n g (now xs) (now ys)) × (g < 2 ^ n) ⌝ }
+    ensures { λ r. ⌜ (Front (points m n g) (r .own) (now (xs .exit))) × (Front (points m n (others n g)) (r .other) (now (ys .exit))) ⌝ }
 {
-    let count = offsets::offsets(m, n, g, xs);
+    let own = offsets::offsets(m, n, g, xs);
     let other = offsets::offsets(m, n, powers::power(2, n) - 1 - g, ys);
-    let width = keys::key_width(columns, other);
-    class_firsts(
-        m,
-        cells,
-        &xs[0..count],
-        &ys[0..other],
-        width,
-        enough,
-        firsts,
-        links,
-        heads,
-    )
+    Counts { own, other }
 }
 
 // Returns whether group g has more than m classes. Stops counting as soon as it does. `xs` and `ys` are work arrays.
@@ -106,16 +87,17 @@ pub fn more_classes_than_levels(
     let mut firsts = [0u16; MOST_LEVELS + 1];
     let mut links = [0u16; MOST_LEVELS + 1];
     let mut heads = [0u16; 1];
+    let counts = group_offsets(m, n, g, xs, ys);
+    let own = counts.own;
+    let other = counts.other;
     m
-        < group_firsts(
+        < class_firsts(
             m,
-            n,
             cells,
-            g,
+            &xs[0..own],
+            &ys[0..other],
             0,
             m + 1,
-            xs,
-            ys,
             &mut firsts,
             &mut links,
             &mut heads,

@@ -2,5 +2,6 @@
 pub mod alike;
 pub mod counting;
 pub mod differences;
+pub mod fast;
 pub mod keys;
 pub mod multiplicity;

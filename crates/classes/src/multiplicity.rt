@@ -1,16 +1,17 @@
 // The multiplicity call.
 ghost use mathlib.Core.Path.{_≡_};
-ghost use mathlib.Core.Bool.{true};
 ghost use Prim.Native.Nat.{_^_, _≤_, _<_};
 ghost use lib.ListN.{length};
-ghost use Rattle.rules.specs.Limits.{sizeFits, mostCells};
+ghost use Rattle.rules.specs.Limits.{mostCells};
 ghost use Rattle.rules.specs.Groups.Groups.{size, others, multiplicity};
 ghost use Rattle.rules.specs.Calls.Answers.{inkIn};
 ghost use Rattle.rules.specs.Calls.Multiplicity.{multiplicityCall};
 ghost use Rattle.answers.specs.AnswerMaps.{answerOf};
 ghost use Rattle.laws.specs.Calls.Multiplicity.{groupAnswer};
+ghost use Rattle.cells.specs.Full.{FullCells};
 ghost use Rattle.classes.specs.Within.{fewCells};
 use crate::counting;
+use crate::fast::folded;
 use crate::keys;
 use answers::answer::Answer;
 use answers::outcome::Outcome;
@@ -33,22 +34,22 @@ fn counted(
     firsts: &mut [u16],
     links: &mut [u16],
 ) -> usize
-    requires { ⌜ (sizeFits m n ≡ true) × (length (now cells) ≡ m ^ n) × (group < 2 ^ n) × (m ^ size n group ≤ length (now xs))
+    requires { ⌜ (FullCells m n (now cells)) × (length (now cells) ≡ m ^ n) × (group < 2 ^ n) × (m ^ size n group ≤ length (now xs))
         × (m ^ size n (others n group) ≤ length (now ys)) × (length (now xs) ≤ length (now firsts)) × (length (now xs) ≤ length (now links))
         × (length (now xs) ≤ mostCells) ⌝ }
     ensures { λ r. ⌜ r ≡ multiplicity m n (inkIn (now (cells .entry))) group ⌝ }
 {
     let mut heads = [0u16; keys::KEYS];
     let enough = xs.len();
-    counting::group_firsts(
+    let counts = counting::group_offsets(m, n, group, xs, ys);
+    let own = counts.own;
+    let other = counts.other;
+    folded::fast_firsts(
         m,
-        n,
         cells,
-        group,
-        keys::MOST_COLUMNS,
+        &xs[0..own],
+        &ys[0..other],
         enough,
-        xs,
-        ys,
         firsts,
         links,
         &mut heads,
@@ -57,7 +58,7 @@ fn counted(
 
 // Does the same with small arrays.
 fn counted_small(m: usize, n: usize, cells: &[u8], group: usize) -> usize
-    requires { ⌜ (sizeFits m n ≡ true) × (length (now cells) ≡ m ^ n) × (group < 2 ^ n)
+    requires { ⌜ (FullCells m n (now cells)) × (length (now cells) ≡ m ^ n) × (group < 2 ^ n)
         × (m ^ size n group ≤ fewCells) × (m ^ size n (others n group) ≤ fewCells) ⌝ }
     ensures { λ r. ⌜ r ≡ multiplicity m n (inkIn (now (cells .entry))) group ⌝ }
 {
@@ -79,7 +80,7 @@ fn counted_small(m: usize, n: usize, cells: &[u8], group: usize) -> usize
 
 // Does the same with arrays for any table.
 fn counted_large(m: usize, n: usize, cells: &[u8], group: usize) -> usize
-    requires { ⌜ (sizeFits m n ≡ true) × (length (now cells) ≡ m ^ n) × (group < 2 ^ n) ⌝ }
+    requires { ⌜ (FullCells m n (now cells)) × (length (now cells) ≡ m ^ n) × (group < 2 ^ n) ⌝ }
     ensures { λ r. ⌜ r ≡ multiplicity m n (inkIn (now (cells .entry))) group ⌝ }
 {
     let mut xs = [0u16; limits::MOST_CELLS];
@@ -100,7 +101,7 @@ fn counted_large(m: usize, n: usize, cells: &[u8], group: usize) -> usize
 
 // Returns refusal 11, or the group's multiplicity.
 fn group_answer(m: usize, n: usize, cells: &[u8], group: usize) -> Answer
-    requires { ⌜ (sizeFits m n ≡ true) × (length (now cells) ≡ m ^ n) ⌝ }
+    requires { ⌜ (FullCells m n (now cells)) × (length (now cells) ≡ m ^ n) ⌝ }
     ensures { λ r. ⌜ answerOf r ≡ groupAnswer m n (now (cells .entry)) group ⌝ }
 {
     if group == 0 {

@@ -5,6 +5,7 @@ pub mod Keeping
 pub mod Leaves
 pub mod Numbers
 pub mod Others
+pub mod Paper
 pub mod Renaming
 pub mod Settling
 pub mod Shallow

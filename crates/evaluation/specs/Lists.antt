@@ -1,9 +1,7 @@
 pub mod Runs
-pub mod Painted
 pub mod Pairs
 pub mod Entries
-pub mod Inputs
 pub mod Wires
-pub mod Gates
-pub mod Spread
-pub mod Tables
+pub mod Laid
+pub mod Painted
+pub mod Cells

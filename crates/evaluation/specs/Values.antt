@@ -73,125 +73,117 @@ module _ (net : Net) (starts₀ : List ℕ) (base count : ℕ) (before : List �
       }
 
   module _ (k : ℕ) (starts : List ℕ) (to : ℕ) (wires : List ℕ) (done : GatesDone net starts₀ base count before k starts to wires) (turn : k < net .gates)
-      (from : ℕ) (is-from : from ≡ k * (net .levels * net .levels)) where
-    abbrev m : ℕ
-    m = net .levels
+    where
+      abbrev m : ℕ
+      m = net .levels
 
-    abbrev a : ℕ
-    a = getD starts (getD (net .left) k 0) 0
+      abbrev a : ℕ
+      a = getD starts (getD (net .left) k 0) 0
 
-    abbrev b : ℕ
-    b = getD starts (getD (net .right) k 0) 0
+      abbrev b : ℕ
+      b = getD starts (getD (net .right) k 0) 0
 
-    back : GateStep net k
-    back = gate-step net (ready .sound) k turn
+      back : GateStep net k
+      back = gate-step net (ready .sound) k turn
 
-    pub column-gate-room : to + count ≤ length wires
-    column-gate-room =
-        let more : k * count + count ≤ net .gates * count = rw suc-mul at (mul-le-mul-right count turn) in
-        omega (arith, done .same, done .reached, ready .room, more)
-
-    pub gate-ready : GateReady m (net .digits) from a b to count wires
-    gate-ready =
-        record {
-          digits-there = omega (arith, digits-within net (ready .sound) k turn);
-          left-there = done .there (getD (net .left) k 0) (back .0);
-          right-there = done .there (getD (net .right) k 0) (back .1);
-          room = column-gate-room;
-          left-levels = λ p h. done .levels (getD (net .left) k 0) p (back .0) h;
-          right-levels = λ p h. done .levels (getD (net .right) k 0) p (back .1) h;
-        }
-
-    -- the next gate's digits
-    pub from-more : from + m * m ≡ (k + 1) * (m * m)
-    from-more = rw (add-one, suc-mul) (omega (arith, is-from))
-
-    module _ (after : List ℕ) (gate : GateDone m (net .digits) from a b to count wires after) where
-      -- the values of the wires so far, and of the gate, at assignment p
-      module _ (p : ℕ) (low : p < count) where
-        abbrev known : List ℕ
-        known = levelsIn wires starts (net .inputs + k) p
-
-        known-at : (j : ℕ) → j < net .inputs + k → getD known j 0 ≡ getD wires (getD starts j 0 + p) 0
-        known-at j h =
-            map-range-at (λ j. getD wires (getD starts j 0 + p) 0) 0 (net .inputs + k) j 0 h ∙ ap (λ (i : ℕ). getD wires (getD starts i 0 + p) 0) (zero-add j)
-
-        known-below : (j : ℕ) → j < net .inputs + k → getD known j 0 < m
-        known-below j h = rw (known-at j h) (done .levels j p h low)
-
-        -- the digit there is the gate's value
-        gate-value : getD after (to + p) 0 ≡ gateValue m known (gateOf net k)
-        unfolding gateValue gateOf
-        gate-value =
-            let u = getD known (getD (net .left) k 0) 0 in
-            let v = getD known (getD (net .right) k 0) 0 in
-            let size = m * m in
-            gate .new p low
-            ∙ (λ i. getD (net .digits) (is-from i + sym (known-at (getD (net .left) k 0) (back .0)) i * m + sym (known-at (getD (net .right) k 0) (back .1)) i)
-            0)
-            ∙ rw (
-              add-assoc,
-              ← (getD-drop (k * size) (net .digits) (u * m + v) 0),
-              ← (getD-take size (drop (k * size) (net .digits)) (u * m + v) 0
-                  (digits-lt (known-below (getD (net .left) k 0) (back .0)) (known-below (getD (net .right) k 0) (back .1)))),
-            )
-
-        gate-below : getD after (to + p) 0 < m
-        unfolding gateValue gateOf
-        gate-below =
-            let u = getD known (getD (net .left) k 0) 0 in
-            let v = getD known (getD (net .right) k 0) 0 in
-            let table = net-gate-table net (ready .sound) k turn in
-            let inside : u * m + v < m * m = digits-lt (known-below (getD (net .left) k 0) (back .0)) (known-below (getD (net .right) k 0) (back .1)) in
-            omega (arith, gate-value, table .below (u * m + v) (rw (table .count) inside))
-
-      -- one more gate has its values
-      pub gates-more : GatesDone net starts₀ base count before (k + 1) (set starts (net .inputs + k) to) (to + count) after
-      gates-more =
+      pub gate-ready : GateReady m (net .digits) (k * (m * m)) a b to count wires
+      gate-ready =
+          let more : k * count + count ≤ net .gates * count = rw suc-mul at (mul-le-mul-right count turn) in
           record {
-            low = omega arith;
-            same = gate .same ∙ done .same;
-            kept = λ q h. gate .kept q (omega (arith, done .reached)) ∙ done .kept q h;
-            starts-room = length-set starts (net .inputs + k) to ∙ done .starts-room;
-            reached = rw (add-one, suc-mul) (omega (arith, done .reached));
-            there = λ j h. start-there j h (ℕ-discrete j (net .inputs + k));
-            levels = λ j p h l. level-there j p h l (ℕ-discrete j (net .inputs + k));
-            values = values-more;
+            digits-there = omega (arith, digits-within net (ready .sound) k turn);
+            left-there = done .there (getD (net .left) k 0) (back .0);
+            right-there = done .there (getD (net .right) k 0) (back .1);
+            room = omega (arith, done .same, done .reached, ready .room, more);
+            left-levels = λ p h. done .levels (getD (net .left) k 0) p (back .0) h;
+            right-levels = λ p h. done .levels (getD (net .right) k 0) p (back .1) h;
           }
-        where
-          room : net .inputs + k < length starts
-          room = omega (arith, done .starts-room, wires-room net (ready .sound))
 
-          own : getD (set starts (net .inputs + k) to) (net .inputs + k) 0 ≡ to
-          own = getD-set-same starts (net .inputs + k) to 0 room
+      module _ (after : List ℕ) (gate : GateDone m (net .digits) (k * (m * m)) a b to count wires after) where
+        -- the values of the wires so far, and of the gate, at assignment p
+        module _ (p : ℕ) (low : p < count) where
+          abbrev known : List ℕ
+          known = levelsIn wires starts (net .inputs + k) p
 
-          earlier : (j : ℕ) → j < net .inputs + k → getD (set starts (net .inputs + k) to) j 0 ≡ getD starts j 0
-          earlier j h = getD-set-other starts (net .inputs + k) j to 0 (λ e. omega arith)
+          known-at : (j : ℕ) → j < net .inputs + k → getD known j 0 ≡ getD wires (getD starts j 0 + p) 0
+          known-at j h =
+              map-range-at (λ j. getD wires (getD starts j 0 + p) 0) 0 (net .inputs + k) j 0 h ∙ ap (λ (i : ℕ). getD wires (getD starts i 0 + p) 0) (zero-add j)
 
-          start-there : (j : ℕ) → j < net .inputs + (k + 1) → Dec (j ≡ net .inputs + k) → getD (set starts (net .inputs + k) to) j 0 + count ≤ to + count
-          start-there j h (yes e) = rw (e, own) (omega arith)
-          start-there j h (no other) = let l : j < net .inputs + k = omega arith in rw (earlier j l) (omega (arith, done .there j l))
+          known-below : (j : ℕ) → j < net .inputs + k → getD known j 0 < m
+          known-below j h = rw (known-at j h) (done .levels j p h low)
 
-          level-there : (j p : ℕ) → j < net .inputs + (k + 1) → p < count → Dec (j ≡ net .inputs + k)
-              → getD after (getD (set starts (net .inputs + k) to) j 0 + p) 0 < m
-          level-there j p h l (yes e) = rw (e, own) (gate-below p l)
-          level-there j p h l (no other) =
-              let less : j < net .inputs + k = omega arith in
-              rw (earlier j less, gate .kept (getD starts j 0 + p) (omega (arith, done .there j less))) (done .levels j p less l)
+          -- the digit there is the gate's value
+          gate-value : getD after (to + p) 0 ≡ gateValue m known (gateOf net k)
+          unfolding gateValue gateOf
+          gate-value =
+              let u = getD known (getD (net .left) k 0) 0 in
+              let v = getD known (getD (net .right) k 0) 0 in
+              let size = m * m in
+              gate .there p low
+              ∙ (λ i. getD (net .digits) (k * size + sym (known-at (getD (net .left) k 0) (back .0)) i * m + sym (known-at (getD (net .right) k 0) (back .1)) i)
+              0)
+              ∙ rw (
+                add-assoc,
+                ← (getD-drop (k * size) (net .digits) (u * m + v) 0),
+                ← (getD-take size (drop (k * size) (net .digits)) (u * m + v) 0
+                    (digits-lt (known-below (getD (net .left) k 0) (back .0)) (known-below (getD (net .right) k 0) (back .1)))),
+              )
 
-          values-more : (p : ℕ) → p < count
-              → levelsIn after (set starts (net .inputs + k) to) (net .inputs + (k + 1)) p
-              ≡ withGates m (levelsIn before starts₀ (net .inputs) p) (map (gateOf net) (range 0 (k + 1)))
-          values-more p h =
-              let next : net .inputs + (k + 1) ≡ suc (net .inputs + k) = omega arith in
-              let kept : levelsIn after (set starts (net .inputs + k) to) (net .inputs + k) p ≡ known p h =
-              map-range-same _ _ 0 (net .inputs + k)
-              (λ j _ l. let l' : j < net .inputs + k = omega arith in
-              ap (λ (s : ℕ). getD after (s + p) 0) (earlier j l') ∙ gate .kept (getD starts j 0 + p) (omega (arith, done .there j l'))) in
-              let new : getD after (getD (set starts (net .inputs + k) to) (net .inputs + k) 0 + p) 0 ≡ gateValue m (known p h) (gateOf net k) =
-              ap (λ (s : ℕ). getD after (s + p) 0) own ∙ gate-value p h in
-              rw (next, map-range-suc, add-one, map-range-suc, with-each-snoc, ← (done .values p h))
-              (ap₂ (λ (vs : List ℕ) (v : ℕ). vs ++ (v ∷ [])) kept new)
+          gate-below : getD after (to + p) 0 < m
+          unfolding gateValue gateOf
+          gate-below =
+              let u = getD known (getD (net .left) k 0) 0 in
+              let v = getD known (getD (net .right) k 0) 0 in
+              let table = net-gate-table net (ready .sound) k turn in
+              let inside : u * m + v < m * m = digits-lt (known-below (getD (net .left) k 0) (back .0)) (known-below (getD (net .right) k 0) (back .1)) in
+              omega (arith, gate-value, table .below (u * m + v) (rw (table .count) inside))
+
+        -- one more gate has its values
+        pub gates-more : GatesDone net starts₀ base count before (k + 1) (set starts (net .inputs + k) to) (to + count) after
+        gates-more =
+            record {
+              low = omega arith;
+              same = gate .same ∙ done .same;
+              kept = λ q h. gate .front q (omega (arith, done .reached)) ∙ done .kept q h;
+              starts-room = length-set starts (net .inputs + k) to ∙ done .starts-room;
+              reached = rw (add-one, suc-mul) (omega (arith, done .reached));
+              there = λ j h. start-there j h (ℕ-discrete j (net .inputs + k));
+              levels = λ j p h l. level-there j p h l (ℕ-discrete j (net .inputs + k));
+              values = values-more;
+            }
+          where
+            room : net .inputs + k < length starts
+            room = omega (arith, done .starts-room, wires-room net (ready .sound))
+
+            own : getD (set starts (net .inputs + k) to) (net .inputs + k) 0 ≡ to
+            own = getD-set-same starts (net .inputs + k) to 0 room
+
+            earlier : (j : ℕ) → j < net .inputs + k → getD (set starts (net .inputs + k) to) j 0 ≡ getD starts j 0
+            earlier j h = getD-set-other starts (net .inputs + k) j to 0 (λ e. omega arith)
+
+            start-there : (j : ℕ) → j < net .inputs + (k + 1) → Dec (j ≡ net .inputs + k) → getD (set starts (net .inputs + k) to) j 0 + count ≤ to + count
+            start-there j h (yes e) = rw (e, own) (omega arith)
+            start-there j h (no other) = let l : j < net .inputs + k = omega arith in rw (earlier j l) (omega (arith, done .there j l))
+
+            level-there : (j p : ℕ) → j < net .inputs + (k + 1) → p < count → Dec (j ≡ net .inputs + k)
+                → getD after (getD (set starts (net .inputs + k) to) j 0 + p) 0 < m
+            level-there j p h l (yes e) = rw (e, own) (gate-below p l)
+            level-there j p h l (no other) =
+                let less : j < net .inputs + k = omega arith in
+                rw (earlier j less, gate .front (getD starts j 0 + p) (omega (arith, done .there j less))) (done .levels j p less l)
+
+            values-more : (p : ℕ) → p < count
+                → levelsIn after (set starts (net .inputs + k) to) (net .inputs + (k + 1)) p
+                ≡ withGates m (levelsIn before starts₀ (net .inputs) p) (map (gateOf net) (range 0 (k + 1)))
+            values-more p h =
+                let next : net .inputs + (k + 1) ≡ suc (net .inputs + k) = omega arith in
+                let kept : levelsIn after (set starts (net .inputs + k) to) (net .inputs + k) p ≡ known p h =
+                map-range-same _ _ 0 (net .inputs + k)
+                (λ j _ l. let l' : j < net .inputs + k = omega arith in
+                ap (λ (s : ℕ). getD after (s + p) 0) (earlier j l') ∙ gate .front (getD starts j 0 + p) (omega (arith, done .there j l'))) in
+                let new : getD after (getD (set starts (net .inputs + k) to) (net .inputs + k) 0 + p) 0 ≡ gateValue m (known p h) (gateOf net k) =
+                ap (λ (s : ℕ). getD after (s + p) 0) own ∙ gate-value p h in
+                rw (next, map-range-suc, add-one, map-range-suc, with-each-snoc, ← (done .values p h))
+                (ap₂ (λ (vs : List ℕ) (v : ℕ). vs ++ (v ∷ [])) kept new)
 
   -- all gates have their values
   module _ (starts : List ℕ) (to : ℕ) (wires : List ℕ) (k : ℕ) (done : GatesDone net starts₀ base count before k starts to wires) (all : net .gates ≤ k) where

@@ -28,15 +28,13 @@ fn gate_by_gate(
     let size = net.levels * net.levels;
     let mut at = starts;
     let mut to: usize = base;
-    let mut from: usize = 0;
     let mut k: usize = 0;
     while k < net.gates {
         let a = at[left[k] as usize];
         let b = at[right[k] as usize];
-        gate_values(net.levels, &digits, from, a, b, to, count, wires);
+        gate_values(net.levels, &digits, k * size, a, b, to, count, wires);
         at[net.inputs + k] = to;
         to += count;
-        from += size;
         k += 1;
     }
     at[net.inputs + net.gates - 1]

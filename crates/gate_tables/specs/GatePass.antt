@@ -65,12 +65,19 @@ pub record Passed (m n : ℕ) (f : ℕ → ℕ) (last : Bool) (a b r : ℕ) (fir
   pub digits : r ≤ m → (k : ℕ) → k < m * m → getD table k 0 ≡ getD (gateDigits m n f last a b) k 0
   pub many : m < r → m < multiplicity m n f (a + b)
 
--- Before a turn of the pass: u is the row of the next sum. The classes of the sums done are known, and what the gate gives there.
-pub record AtSum (m n : ℕ) (cells : List ℕ) (a b : ℕ) (last : Bool) (left right ys : List ℕ) (other : ℕ) (firsts table next : List ℕ) (count u : ℕ) : Type 0
+-- the same pass where its groups and samples are found by other means
+pub ready-by : {m n : ℕ} {cells : List ℕ} {a b x y : ℕ} {left right ls rs : List ℕ} → x ≡ a → y ≡ b → ls ≡ left → rs ≡ right
+    → PassReady m n cells a b left right → PassReady m n cells x y ls rs
+ready-by of-a of-b of-left of-right ready = rw (of-a, of-b, of-left, of-right) ready
+
+pub passed-by : {m n : ℕ} {f : ℕ → ℕ} {last : Bool} {a b x y r : ℕ} {firsts table : List ℕ} → x ≡ a → y ≡ b → Passed m n f last x y r firsts table
+    → Passed m n f last a b r firsts table
+passed-by of-a of-b passed = rw (← of-a, ← of-b) passed
+
+-- Before a turn of the pass: the classes of the sums done are known, and what the gate gives there.
+pub record AtSum (m n : ℕ) (cells : List ℕ) (a b : ℕ) (last : Bool) (left right ys : List ℕ) (other : ℕ) (firsts table next : List ℕ) (count : ℕ) : Type 0
   where
-    pub ready : PassReady m n cells a b left right
     pub columns : Front (points m n (others n (a + b))) other ys
-    pub row : NextRow left right next u
     pub for-firsts : m + 1 ≤ length firsts
     pub for-table : m * m ≤ length table
     pub for-next : length next ≡ mostLevels
@@ -150,15 +157,12 @@ module _ (m n : ℕ) (cells : List ℕ) (a b : ℕ) (left right : List ℕ) (rea
   )
 
   -- no sum is done yet
-  pub at-start : (last : Bool) (ys : List ℕ) (other : ℕ) (firsts table next : List ℕ) (u : ℕ) → Front (points m n (others n (a + b))) other ys
-      → NextRow left right next u → (before : List ℕ) → PassRoom m n before firsts table → length next ≡ mostLevels
-      → ((w : ℕ) → w < length left → getD next w 0 ≡ 0)
-      → AtSum m n cells a b last left right ys other firsts table next 0 u
-  at-start last ys other firsts table next u columns row before room long none =
+  pub at-start : (last : Bool) (ys : List ℕ) (other : ℕ) (firsts table next : List ℕ) → Front (points m n (others n (a + b))) other ys
+      → (before : List ℕ) → PassRoom m n before firsts table → length next ≡ mostLevels → ((w : ℕ) → w < length left → getD next w 0 ≡ 0)
+      → AtSum m n cells a b last left right ys other firsts table next 0
+  at-start last ys other firsts table next columns before room long none =
       record {
-        ready = ready;
         columns = columns;
-        row = row;
         for-firsts = room .for-firsts;
         for-table = room .for-table;
         for-next = long;
@@ -169,273 +173,266 @@ module _ (m n : ℕ) (cells : List ℕ) (a b : ℕ) (left right : List ℕ) (rea
         free = λ w v v< _. room .zeros (w * m + v);
       }
 
-module _ (m n : ℕ) (cells : List ℕ) (a b : ℕ) (last : Bool) (left right ys : List ℕ) (other : ℕ) (firsts table next : List ℕ) (count r : ℕ)
-    (at : AtSum m n cells a b last left right ys other firsts table next count r) where
-  abbrev ink : ℕ → ℕ
-  ink = inkIn cells
+  module _ (last : Bool) (ys : List ℕ) (other : ℕ) (firsts table next : List ℕ) (count : ℕ)
+      (at : AtSum m n cells a b last left right ys other firsts table next count) where
+    abbrev columnsOf : List ℕ
+    columnsOf = take (other - 0) ys
 
-  abbrev low : 0 < m
-  low = at .ready .sized .some
+    inside-columns : (q : ℕ) → part m n (a + b) q ≡ q → Within (length cells) columnsOf q
+    inside-columns q own =
+        subst⁻¹ (λ (us : List ℕ). Within (length cells) us q) (part-is (at .columns))
+        (part-within m n pos (a + b) joint-below (length cells) (ready .sized .count) q own)
 
-  abbrev listed : List ℕ
-  listed = classes m n ink (a + b)
+    -- each class found is inside the cells, with each assignment of the other inputs
+    pub kept-inside : (q j : ℕ) → j < count → Within (length cells) columnsOf (getD (set firsts count q) j 0)
+    kept-inside q j h =
+        subst⁻¹ (Within (length cells) columnsOf) (getD-set-other firsts count j q 0 (λ e. omega arith) ∙ at .kept j h)
+        (inside-columns _ (class-own j (omega (arith, at .known)) .1))
 
-  abbrev kind : ℕ → ℕ
-  kind p = classNumber m n ink (a + b) p
+    -- all sums are done
+    pub at-end : (r : ℕ) → NextRow left right next r → length left ≤ r → Passed m n f last a b count firsts table
+    unfolding multiplicity
+    at-end r row end =
+        record {
+          listed = λ _. front;
+          digits = λ _. pass-digits m n pos f last a b (sides-parts (ready .sides) (omega (arith, front .count, at .few))) left right table
+              (ready .lefts) (ready .rights)
+              ((λ u v u< v<. at .done u v u< v< (omega (arith, row .none end u u<)) .1), (λ u v v< out. at .free u v v< (λ h k _. out h k)));
+          many = λ h. absurd (omega (arith, at .few));
+        }
+      where
+        all-known : count ≡ length joint
+        all-known = go (decLt count (length joint))
+          where
+            go : Dec (count < length joint) → count ≡ length joint
+            go (no h) = omega (arith, at .known)
+            go (yes h) =
+                let (u, v, u<, v<, is) = class-at count h in
+                absurd (omega (
+                  arith,
+                  class-own count h .0,
+                  ap class is,
+                  at .done u v
+                      u< v< (omega (arith, row .none end u u<)) .0,
+                ))
 
-  abbrev columnsOf : List ℕ
-  columnsOf = take (other - 0) ys
+        front : Front joint count firsts
+        front =
+            let long = length-take-le count firsts (omega (arith, at .few, at .for-firsts)) in
+            record {
+              count = all-known;
+              is = ext-getD 0 (take count firsts) joint (long ∙ all-known) (λ i h. getD-take count firsts i 0 (omega arith) ∙ at .kept i (omega arith));
+            }
 
-  g< : a + b < 2 ^ n
-  g< = joint-below m n cells a b left right (at .ready)
+    -- a turn
+    module _ (r : ℕ) (row : NextRow left right next r) (r< : r < length left) where
+      abbrev v : ℕ
+      v = getD next r 0
 
-  kind-below : (p : ℕ) → kind p < length listed
-  kind-below = in-joint m n cells a b left right (at .ready)
+      abbrev s : ℕ
+      s = sumOf left right r v
 
-  inside-columns : (q : ℕ) → part m n (a + b) q ≡ q → Within (length cells) columnsOf q
-  inside-columns q own =
-      subst⁻¹ (λ (us : List ℕ). Within (length cells) us q) (part-is (at .columns))
-      (part-within m n low (a + b) g< (length cells) (at .ready .sized .count) q own)
+      v< : v < length right
+      v< = row .some r<
 
-  -- each class found is inside the cells, with each assignment of the other inputs
-  pub kept-inside : (q j : ℕ) → j < count → Within (length cells) columnsOf (getD (set firsts count q) j 0)
-  kept-inside q j h =
-      subst⁻¹ (Within (length cells) columnsOf) (getD-set-other firsts count j q 0 (λ e. omega arith) ∙ at .kept j h)
-      (inside-columns _ (class-own m n cells a b left right (at .ready) j (omega (arith, at .known)) .1))
+      s-own : part m n (a + b) s ≡ s
+      s-own = sum-own r v r< v<
 
-  -- all sums are done
-  pub at-end : length left ≤ r → Passed m n ink last a b count firsts table
-  unfolding multiplicity
-  at-end end =
-      record {
-        listed = λ _. front;
-        digits = λ _. pass-digits m n low ink last a b (sides-parts (at .ready .sides) (omega (arith, front .count, at .few))) left right table
-            (at .ready .lefts) (at .ready .rights)
-            ((λ u v u< v<. at .done u v u< v< (omega (arith, at .row .none end u u<)) .1), (λ u v v< out. at .free u v v< (λ h k _. out h k)));
-        many = λ h. absurd (omega (arith, at .few));
-      }
-    where
-      all-known : count ≡ length listed
-      all-known = go (decLt count (length listed))
-        where
-          go : Dec (count < length listed) → count ≡ length listed
-          go (no h) = omega (arith, at .known)
-          go (yes h) =
-              let (u, v, u<, v<, is) = class-at m n cells a b left right (at .ready) count h in
-              absurd (omega (
-                arith,
-                class-own m n cells a b left right (at .ready) count h .0,
-                ap kind is,
-                at .done u v
-                    u< v< (omega (arith, at .row .none end u u<)) .0,
-              ))
-
-      front : Front listed count firsts
-      front =
-          let long = length-take-le count firsts (omega (arith, at .few, at .for-firsts)) in
+      pub sum-facts : SumFacts m cells left right firsts table next count r
+      sum-facts =
+          let few = sides-few in
+          let below : s < m ^ n = subst (λ (q : ℕ). q < m ^ n) s-own (part-below m n pos (a + b) s) in
+          let sized = ready .sized in
+          let here : r * m + v < m * m = digits-lt (lt-of-lt-of-le r< (few .0)) (lt-of-lt-of-le v< (few .1)) in
           record {
-            count = all-known;
-            is = ext-getD 0 (take count firsts) listed (long ∙ all-known) (λ i h. getD-take count firsts i 0 (omega arith) ∙ at .kept i (omega arith));
+            more = v<;
+            short = omega (arith, few .0, sized .levels);
+            column = omega (arith, few .1, v<, sized .levels);
+            known = omega (arith, at .few, sized .levels);
+            room = omega (arith, at .few, at .for-firsts);
+            small = omega (arith, sized .small);
+            inside = omega (arith, sized .count);
+            place = omega (arith, here, at .for-table);
+            flat = omega (arith, here, mul-le-mul-right m (sized .levels), sized .levels);
           }
 
-  -- a turn
-  module _ (r< : r < length left) where
-    abbrev v : ℕ
-    v = getD next r 0
+      -- the sum p of the turn
+      module _ (p : ℕ) (is-sum : p ≡ s) where
+        p-own : part m n (a + b) p ≡ p
+        p-own = rw is-sum s-own
 
-    abbrev p : ℕ
-    p = sumOf left right r v
+        pub sum-within : Within (length cells) columnsOf p
+        sum-within = inside-columns p p-own
 
-    v< : v < length right
-    v< = at .row .some r<
+        -- it begins a new class: the next in the list
+        module _ (late : count ≤ class p) where
+          here : count < length joint
+          here = omega (arith, in-joint p)
 
-    p-own : part m n (a + b) p ≡ p
-    p-own = sum-own m n cells a b left right (at .ready) r v r< v<
-
-    pub sum-within : Within (length cells) columnsOf p
-    sum-within = inside-columns p p-own
-
-    pub sum-facts : SumFacts m cells left right firsts table next count r
-    sum-facts =
-        let few = sides-few m n cells a b left right (at .ready) in
-        let below : p < m ^ n = subst (λ (q : ℕ). q < m ^ n) p-own (part-below m n low (a + b) p) in
-        let sized = at .ready .sized in
-        let here : r * m + v < m * m = digits-lt (lt-of-lt-of-le r< (few .0)) (lt-of-lt-of-le v< (few .1)) in
-        record {
-          more = v<;
-          short = omega (arith, few .0, sized .levels);
-          column = omega (arith, few .1, v<, sized .levels);
-          known = omega (arith, at .few, sized .levels);
-          room = omega (arith, at .few, at .for-firsts);
-          small = omega (arith, sized .small);
-          inside = omega (arith, sized .count);
-          place = omega (arith, here, at .for-table);
-          flat = omega (arith, here, mul-le-mul-right m (sized .levels), sized .levels);
-        }
-
-    -- it begins a new class: the next in the list
-    module _ (late : count ≤ kind p) where
-      here : count < length listed
-      here = omega (arith, kind-below p)
-
-      next-listed : getD listed count 0 ≡ p
-      next-listed =
-          let (u, w, u<, w<, is) = class-at m n cells a b left right (at .ready) count here in
-          by u w u< w< is (rising (ℕ-discrete count (kind p))) (decLt w (getD next u 0))
-        where
-          rising : Dec (count ≡ kind p) → getD listed count 0 ≤ p
-          rising (yes e) = rw e (class-not-above m n low ink (a + b) g< p p-own)
-          rising (no ne) =
-              omega (arith, classes-rising m n low ink (a + b) g< count (kind p) (omega arith) (kind-below p), class-not-above m n low ink (a + b) g< p p-own)
-
-          row-rises : (u w : ℕ) → w < length right → getD next u 0 ≤ w → getD right (getD next u 0) 0 ≤ getD right w 0
-          row-rises u w w< low = by (ℕ-discrete (getD next u 0) w)
+          next-listed : getD joint count 0 ≡ p
+          next-listed =
+              let (u, w, u<, w<, is) = class-at count here in
+              by u w u< w< is (rising (ℕ-discrete count (class p))) (decLt w (getD next u 0))
             where
-              by : Dec (getD next u 0 ≡ w) → getD right (getD next u 0) 0 ≤ getD right w 0
-              by (yes e) = rw e (omega arith)
-              by (no ne) = omega (arith, right-rises m n cells a b left right (at .ready) (getD next u 0) w (omega arith) w<)
-
-          by : (u w : ℕ) → u < length left → w < length right → getD listed count 0 ≡ sumOf left right u w → getD listed count 0 ≤ p → Dec (w < getD next u 0)
-              → getD listed count 0 ≡ p
-          by u w u< w< is up (yes earlier) = absurd
-              (omega (arith, class-own m n cells a b left right (at .ready) count here .0, ap kind is, at .done u w u< w< earlier .0))
-          by u w u< w< is up (no later) =
-              omega (arith, at .row .least r< u u< (omega arith), row-rises u w w< (omega arith))
-
-      next-class : kind p ≡ count
-      next-class = ap kind (sym next-listed) ∙ class-own m n cells a b left right (at .ready) count here .0
-
-    -- the class found among those kept
-    module _ (c : ℕ) (found : c ≡ firstPlace (alikeOver ink columnsOf p) (take count (set firsts count p))) where
-      abbrev kept : List ℕ
-      kept = set firsts count p
-
-      same : (j : ℕ) → j < count → getD kept j 0 ≡ getD firsts j 0
-      same j h = getD-set-other firsts count j p 0 (λ e. omega arith)
-
-      test : ℕ → Bool
-      test = alikeOver ink (points m n (others n (a + b))) p
-
-      test-listed : c ≡ firstPlace test (take count listed)
-      unfolding test
-      test-listed =
-          let long = length-take-le count kept (omega (arith, length-set firsts count p, sum-facts .room)) in
-          found
-          ∙ ap₂ (λ (us xs : List ℕ). firstPlace (alikeOver ink us p) xs) (part-is (at .columns))
-          (ext-getD 0 (take count kept) (take count listed) (long ∙ sym (length-take-le count listed (at .known)))
-          (λ j h. getD-take count kept j 0 (omega arith) ∙ same j (omega arith) ∙ at .kept j (omega arith) ∙ sym (getD-take count listed j 0 (omega arith))))
-
-      kind-is : kind p ≡ firstPlace test listed
-      unfolding classNumber test
-      kind-is = ap (λ (q : ℕ). firstPlace (alikeOver ink (points m n (others n (a + b))) q) listed) p-own
-
-      -- it is the sum's own, whether old or new
-      found-class : c ≡ kind p
-      found-class = go (decLt (kind p) count)
-        where
-          go : Dec (kind p < count) → c ≡ kind p
-          go (yes old) =
-              test-listed ∙ sym (search-is test listed count (kind p) (at .known) (omega arith) (λ j h. before-first test 0 listed j (omega (arith, kind-is)))
-              (λ h. subst (λ (k : ℕ). test (getD listed k 0) ≡ true) (sym kind-is) (at-first test 0 listed (omega (arith, kind-is, kind-below p)))))
-          go (no new) =
-              test-listed
-              ∙ sym (search-is test listed count count (at .known) (omega arith) (λ j h. before-first test 0 listed j (omega (arith, kind-is)))
-              (λ h. absurd (omega arith)))
-              ∙ sym (next-class (omega arith))
-
-      -- a class too many turned up
-      pub at-many : m ≤ c → Passed m n ink last a b (m + 1) kept table
-      unfolding multiplicity
-      at-many over =
-          record { listed = λ h. absurd (omega arith); digits = λ h. absurd (omega arith); many = λ _. omega (arith, found-class, kind-below p) }
-
-      -- the class is one of m, and what the gate gives is noted
-      pub at-next : c < m → (after : ℕ) → (c < count → after ≡ count) × (count ≤ c → after ≡ c + 1) → (x : ℕ) → x ≡ cond last (ink p) c
-          → (u : ℕ) → NextRow left right (set next r (v + 1)) u
-          → AtSum m n cells a b last left right ys other kept (set table (r * m + v) x) (set next r (v + 1)) after u
-      unfolding given
-      at-next c< after counted x is-x u row = go (decLt c count)
-        where
-          r-room : r < length next
-          r-room = omega (arith, sum-facts .short, at .for-next)
-
-          given-next : x ≡ given m n ink last (a + b) p
-          given-next = is-x ∙ by last
-            where
-              by : (t : Bool) → cond t (ink p) c ≡ given m n ink t (a + b) p
-              by true = ap ink (sym p-own)
-              by false = found-class
-
-          -- another sum has another place
-          elsewhere : (u w : ℕ) → w < m → ((u ≡ r) → (w ≡ v) → ⊥) → (u * m + w ≡ r * m + v → ⊥)
-          elsewhere u w w< differ e =
-              let v< : v < m = lt-of-lt-of-le v< (sides-few m n cells a b left right (at .ready) .1) in
-              let row-same : u ≡ r = sym (digits-div u w<) ∙ ap (λ (k : ℕ). k / m) e ∙ digits-div r v< in
-              differ row-same (sym (digits-mod u w<) ∙ ap (λ (k : ℕ). k % m) e ∙ digits-mod r v<)
-
-          done-now : count ≤ after → c < after → (u w : ℕ) → u < length left → w < length right → w < getD (set next r (v + 1)) u 0
-              → (kind (sumOf left right u w) < after) × (getD (set table (r * m + v) x) (u * m + w) 0 ≡ given m n ink last (a + b) (sumOf left right u w))
-          done-now more new u w u< w< h = by (ℕ-discrete u r) (ℕ-discrete w v)
-            where
-              Now : Type 0
-              Now = (kind (sumOf left right u w) < after) × (getD (set table (r * m + v) x) (u * m + w) 0 ≡ given m n ink last (a + b) (sumOf left right u w))
-
-              earlier : ((u ≡ r) → (w ≡ v) → ⊥) → w < getD next u 0 → Now
-              earlier differ l =
-                  let before = at .done u w u< w< l in (
-                    omega (arith, before .0),
-                    getD-set-other table (r * m + v) (u * m + w) x 0
-                        (elsewhere u w (lt-of-lt-of-le w< (sides-few m n cells a b left right (at .ready) .1)) differ) ∙ before .1,
+              rising : Dec (count ≡ class p) → getD joint count 0 ≤ p
+              rising (yes e) = rw e (class-not-above m n pos f (a + b) joint-below p p-own)
+              rising (no ne) =
+                  omega (
+                    arith,
+                    classes-rising m n pos f (a + b) joint-below count (class p) (omega arith) (in-joint p),
+                    class-not-above m n pos f
+                        (a + b) joint-below p p-own,
                   )
 
-              by : Dec (u ≡ r) → Dec (w ≡ v) → Now
-              by (yes e) (yes d) =
-                  let is : kind (sumOf left right u w) ≡ c = ap₂ (λ (i k : ℕ). kind (sumOf left right i k)) e d ∙ sym found-class in
-                  (omega arith, rw (e, d) (getD-set-same table (r * m + v) x 0 (sum-facts .place) ∙ given-next))
-              by (yes e) (no ne) = earlier (λ _ d. ne d) (subst (λ (i : ℕ). w < getD next i 0) (sym e)
-                  (omega (arith, subst (λ (i : ℕ). w < getD (set next r (v + 1)) i 0) e h, getD-set-same next r (v + 1) 0 r-room)))
-              by (no ne) _ = earlier (λ e _. ne e) (omega (arith, getD-set-other next r u (v + 1) 0 ne))
+              row-rises : (u w : ℕ) → w < length right → getD next u 0 ≤ w → getD right (getD next u 0) 0 ≤ getD right w 0
+              row-rises u w w< after = by (ℕ-discrete (getD next u 0) w)
+                where
+                  by : Dec (getD next u 0 ≡ w) → getD right (getD next u 0) 0 ≤ getD right w 0
+                  by (yes e) = rw e (omega arith)
+                  by (no ne) = omega (arith, right-rises (getD next u 0) w (omega arith) w<)
 
-          free-now : (u w : ℕ) → w < m → (u < length left → w < length right → w < getD (set next r (v + 1)) u 0 → ⊥)
-              → getD (set table (r * m + v) x) (u * m + w) 0 ≡ 0
-          free-now u w w< out =
-              getD-set-other table (r * m + v) (u * m + w) x 0
-              (elsewhere u w w< (λ e d. out (rw e r<) (rw d v<) (rw (e, d) (omega (arith, getD-set-same next r (v + 1) 0 r-room)))))
-              ∙ at .free u w w< (λ u< w< l. by u< w< l (ℕ-discrete u r))
+              by : (u w : ℕ) → u < length left → w < length right → getD joint count 0 ≡ sumOf left right u w → getD joint count 0 ≤ p → Dec (w < getD next u 0)
+                  → getD joint count 0 ≡ p
+              by u w u< w< is up (yes earlier) = absurd
+                  (omega (arith, class-own count here .0, ap class is, at .done u w u< w< earlier .0))
+              by u w u< w< is up (no later) =
+                  omega (arith, row .least r< u u< (omega arith), row-rises u w w< (omega arith))
+
+          next-class : class p ≡ count
+          next-class = ap class (sym next-listed) ∙ class-own count here .0
+
+        -- the class found among those kept
+        module _ (c : ℕ) (found : c ≡ firstPlace (alikeOver f columnsOf p) (take count (set firsts count p))) where
+          abbrev kept : List ℕ
+          kept = set firsts count p
+
+          same : (j : ℕ) → j < count → getD kept j 0 ≡ getD firsts j 0
+          same j h = getD-set-other firsts count j p 0 (λ e. omega arith)
+
+          test : ℕ → Bool
+          test = alikeOver f (points m n (others n (a + b))) p
+
+          test-listed : c ≡ firstPlace test (take count joint)
+          unfolding test
+          test-listed =
+              let long = length-take-le count kept (omega (arith, length-set firsts count p, sum-facts .room)) in
+              found
+              ∙ ap₂ (λ (us xs : List ℕ). firstPlace (alikeOver f us p) xs) (part-is (at .columns))
+              (ext-getD 0 (take count kept) (take count joint) (long ∙ sym (length-take-le count joint (at .known)))
+              (λ j h. getD-take count kept j 0 (omega arith) ∙ same j (omega arith) ∙ at .kept j (omega arith) ∙ sym (getD-take count joint j 0 (omega arith))))
+
+          kind-is : class p ≡ firstPlace test joint
+          unfolding classNumber test
+          kind-is = ap (λ (q : ℕ). firstPlace (alikeOver f (points m n (others n (a + b))) q) joint) p-own
+
+          -- it is the sum's own, whether old or new
+          found-class : c ≡ class p
+          found-class = go (decLt (class p) count)
             where
-              by : u < length left → w < length right → w < getD next u 0 → Dec (u ≡ r) → ⊥
-              by u< w< l (yes e) =
-                  out u< w< (rw e (omega (arith, subst (λ (i : ℕ). w < getD next i 0) e l, getD-set-same next r (v + 1) 0 r-room)))
-              by u< w< l (no ne) = out u< w< (omega (arith, getD-set-other next r u (v + 1) 0 ne))
+              go : Dec (class p < count) → c ≡ class p
+              go (yes old) =
+                  test-listed ∙ sym (search-is test joint count (class p) (at .known) (omega arith) (λ j h. before-first test 0 joint j (omega
+                  (arith, kind-is)))
+                  (λ h. subst (λ (k : ℕ). test (getD joint k 0) ≡ true) (sym kind-is) (at-first test 0 joint (omega (arith, kind-is, in-joint p)))))
+              go (no new) =
+                  test-listed
+                  ∙ sym (search-is test joint count count (at .known) (omega arith) (λ j h. before-first test 0 joint j (omega (arith, kind-is)))
+                  (λ h. absurd (omega arith)))
+                  ∙ sym (next-class (omega arith))
 
-          kept-now : (j : ℕ) → j < count + 1 → count ≤ kind p → Dec (j ≡ count) → getD kept j 0 ≡ getD listed j 0
-          kept-now j h late (yes e) = rw e (getD-set-same firsts count p 0 (sum-facts .room) ∙ sym (next-listed late))
-          kept-now j h late (no ne) = same j (omega arith) ∙ at .kept j (omega arith)
+          -- a class too many turned up
+          pub at-many : m ≤ c → Passed m n f last a b (m + 1) kept table
+          unfolding multiplicity
+          at-many over =
+              record { listed = λ h. absurd (omega arith); digits = λ h. absurd (omega arith); many = λ _. omega (arith, found-class, in-joint p) }
 
-          step : after ≤ m → after ≤ length listed → ((j : ℕ) → j < after → getD kept j 0 ≡ getD listed j 0) → count ≤ after → c < after
-              → AtSum m n cells a b last left right ys other kept (set table (r * m + v) x) (set next r (v + 1)) after u
-          step few known kept more new =
-              record {
-                ready = at .ready;
-                columns = at .columns;
-                row = row;
-                for-firsts = omega (arith, length-set firsts count p, at .for-firsts);
-                for-table = omega (arith, length-set table (r * m + v) x, at .for-table);
-                for-next = length-set next r (v + 1) ∙ at .for-next;
-                few = few;
-                known = known;
-                kept = kept;
-                done = done-now more new;
-                free = free-now;
-              }
+          -- the class is one of m, and what the gate gives is noted
+          pub at-next : c < m → (after : ℕ) → (c < count → after ≡ count) × (count ≤ c → after ≡ c + 1) → (x : ℕ) → x ≡ cond last (f p) c
+              → (next₁ table₁ : List ℕ) → (next₁ ≡ set next r (v + 1)) × (table₁ ≡ set table (r * m + v) x)
+              → AtSum m n cells a b last left right ys other kept table₁ next₁ after
+          unfolding given
+          at-next c< after counted x is-x next₁ table₁ put = rw (put .0, put .1) (go (decLt c count))
+            where
+              r-room : r < length next
+              r-room = omega (arith, sum-facts .short, at .for-next)
 
-          go : Dec (c < count) → AtSum m n cells a b last left right ys other kept (set table (r * m + v) x) (set next r (v + 1)) after u
-          go (yes h) =
-              let is = counted .0 h in
-              step (omega (arith, at .few)) (omega (arith, at .known)) (λ j l. same j (omega arith) ∙ at .kept j (omega arith)) (omega arith) (omega arith)
-          go (no h) =
-              let is = counted .1 (omega arith) in
-              let late : count ≤ kind p = omega (arith, found-class) in
-              let place : c ≡ count = found-class ∙ next-class late in
-              step (omega arith) (omega (arith, found-class, kind-below p)) (λ j l. kept-now j (omega arith) late (ℕ-discrete j count)) (omega arith)
-              (omega arith)
+              given-next : x ≡ given m n f last (a + b) s
+              given-next = is-x ∙ by last ∙ ap (given m n f last (a + b)) is-sum
+                where
+                  by : (t : Bool) → cond t (f p) c ≡ given m n f t (a + b) p
+                  by true = ap f (sym p-own)
+                  by false = found-class
+
+              -- another sum has another place
+              elsewhere : (u w : ℕ) → w < m → ((u ≡ r) → (w ≡ v) → ⊥) → (u * m + w ≡ r * m + v → ⊥)
+              elsewhere u w w< differ e =
+                  let v< : v < m = lt-of-lt-of-le v< (sides-few .1) in
+                  let row-same : u ≡ r = sym (digits-div u w<) ∙ ap (λ (k : ℕ). k / m) e ∙ digits-div r v< in
+                  differ row-same (sym (digits-mod u w<) ∙ ap (λ (k : ℕ). k % m) e ∙ digits-mod r v<)
+
+              done-now : count ≤ after → c < after → (u w : ℕ) → u < length left → w < length right → w < getD (set next r (v + 1)) u 0
+                  → (class (sumOf left right u w) < after) × (getD (set table (r * m + v) x) (u * m + w) 0 ≡ given m n f last (a + b) (sumOf left right u w))
+              done-now more new u w u< w< h = by (ℕ-discrete u r) (ℕ-discrete w v)
+                where
+                  Now : Type 0
+                  Now = (class (sumOf left right u w) < after) × (getD (set table (r * m + v) x) (u * m + w) 0 ≡ given m n f last (a + b)
+                      (sumOf left right u w))
+
+                  earlier : ((u ≡ r) → (w ≡ v) → ⊥) → w < getD next u 0 → Now
+                  earlier differ l =
+                      let before = at .done u w u< w< l in (
+                        omega (arith, before .0),
+                        getD-set-other table (r * m + v) (u * m + w) x 0
+                            (elsewhere u w (lt-of-lt-of-le w< (sides-few .1)) differ) ∙ before .1,
+                      )
+
+                  by : Dec (u ≡ r) → Dec (w ≡ v) → Now
+                  by (yes e) (yes d) =
+                      let is : class (sumOf left right u w) ≡ c = ap₂ (λ (i k : ℕ). class (sumOf left right i k)) e d ∙ ap class
+                      (sym is-sum) ∙ sym found-class in
+                      (omega arith, rw (e, d) (getD-set-same table (r * m + v) x 0 (sum-facts .place) ∙ given-next))
+                  by (yes e) (no ne) = earlier (λ _ d. ne d) (subst (λ (i : ℕ). w < getD next i 0) (sym e)
+                      (omega (arith, subst (λ (i : ℕ). w < getD (set next r (v + 1)) i 0) e h, getD-set-same next r (v + 1) 0 r-room)))
+                  by (no ne) _ = earlier (λ e _. ne e) (omega (arith, getD-set-other next r u (v + 1) 0 ne))
+
+              free-now : (u w : ℕ) → w < m → (u < length left → w < length right → w < getD (set next r (v + 1)) u 0 → ⊥)
+                  → getD (set table (r * m + v) x) (u * m + w) 0 ≡ 0
+              free-now u w w< out =
+                  getD-set-other table (r * m + v) (u * m + w) x 0
+                  (elsewhere u w w< (λ e d. out (rw e r<) (rw d v<) (rw (e, d) (omega (arith, getD-set-same next r (v + 1) 0 r-room)))))
+                  ∙ at .free u w w< (λ u< w< l. by u< w< l (ℕ-discrete u r))
+                where
+                  by : u < length left → w < length right → w < getD next u 0 → Dec (u ≡ r) → ⊥
+                  by u< w< l (yes e) =
+                      out u< w< (rw e (omega (arith, subst (λ (i : ℕ). w < getD next i 0) e l, getD-set-same next r (v + 1) 0 r-room)))
+                  by u< w< l (no ne) = out u< w< (omega (arith, getD-set-other next r u (v + 1) 0 ne))
+
+              kept-now : (j : ℕ) → j < count + 1 → count ≤ class p → Dec (j ≡ count) → getD kept j 0 ≡ getD joint j 0
+              kept-now j h late (yes e) = rw e (getD-set-same firsts count p 0 (sum-facts .room) ∙ sym (next-listed late))
+              kept-now j h late (no ne) = same j (omega arith) ∙ at .kept j (omega arith)
+
+              step : after ≤ m → after ≤ length joint → ((j : ℕ) → j < after → getD kept j 0 ≡ getD joint j 0) → count ≤ after → c < after
+                  → AtSum m n cells a b last left right ys other kept (set table (r * m + v) x) (set next r (v + 1)) after
+              step few known kept more new =
+                  record {
+                    columns = at .columns;
+                    for-firsts = omega (arith, length-set firsts count p, at .for-firsts);
+                    for-table = omega (arith, length-set table (r * m + v) x, at .for-table);
+                    for-next = length-set next r (v + 1) ∙ at .for-next;
+                    few = few;
+                    known = known;
+                    kept = kept;
+                    done = done-now more new;
+                    free = free-now;
+                  }
+
+              go : Dec (c < count) → AtSum m n cells a b last left right ys other kept (set table (r * m + v) x) (set next r (v + 1)) after
+              go (yes h) =
+                  let is = counted .0 h in
+                  step (omega (arith, at .few)) (omega (arith, at .known)) (λ j l. same j (omega arith) ∙ at .kept j (omega arith)) (omega arith) (omega arith)
+              go (no h) =
+                  let is = counted .1 (omega arith) in
+                  let late : count ≤ class p = omega (arith, found-class) in
+                  let place : c ≡ count = found-class ∙ next-class late in
+                  step (omega arith) (omega (arith, found-class, in-joint p)) (λ j l. kept-now j (omega arith) late (ℕ-discrete j count)) (omega arith)
+                  (omega arith)

@@ -15,30 +15,7 @@ pub record Joined (m n : ℕ) (f : ℕ → ℕ) (last : Bool) (a b left right : 
   pub count : after .gates ≡ before .gates + 1
   pub gates : gatesOf after ≡ gatesOf before ++ (record { left = left; right = right; digits = gateDigits m n f last a b } ∷ [])
 
--- a gate's digits written, and its references set
-module _ (n : ℕ) (f : ℕ → ℕ) (last : Bool) (a b left right : ℕ) (net : Net) (digits : List ℕ) (lefts : net .gates < length (net .left))
-    (rights : net .gates < length (net .right)) where
-  -- the digits of a gate of m levels, after the others
-  abbrev Written : ℕ → Type 0
-  Written m = digits ≡ paste (net .digits) (net .gates * (m * m)) (gateDigits m n f last a b) (m * m)
-
-  joined-levels : (net .gates + 1) * (net .levels * net .levels) ≤ length (net .digits) → Written (net .levels)
-      → Joined (net .levels) n f last a b left right net (grown net left right digits)
-  joined-levels room written =
-      record {
-        levels = refl;
-        inputs = refl;
-        count = refl;
-        gates = gates-grown net left right (gateDigits (net .levels) n f last a b) digits lefts rights room (digits-count (net .levels) n f last a b) written;
-      }
-
-  joined : (m : ℕ) → net .levels ≡ m → (net .gates + 1) * (m * m) ≤ length (net .digits) → Written m
-      → Joined m n f last a b left right net (grown net left right digits)
-  joined m e =
-      subst (λ (k : ℕ). (net .gates + 1) * (k * k) ≤ length (net .digits) → Written k → Joined k n f last a b left right net (grown net left right digits)) e
-      joined-levels
-
--- The same for digits written from a table: it adds each gate whose digits are at the table's front.
+-- its references set, and its digits written from a table: each gate whose digits are at the table's front is added
 abbrev pub JoinedBy : ℕ → ℕ → ℕ → List ℕ → Net → Net → Type 0
 JoinedBy m left right table net after =
     (n : ℕ) (f : ℕ → ℕ) (last : Bool) (a b : ℕ) → net .levels ≡ m → ((k : ℕ) → k < m * m → getD table k 0 ≡ getD (gateDigits m n f last a b) k 0)
@@ -48,8 +25,13 @@ pub joined-table : (m left right : ℕ) (table : List ℕ) (net : Net) (digits :
     → (net .gates + 1) * (m * m) ≤ length (net .digits) → m * m ≤ length table → digits ≡ paste (net .digits) (net .gates * (m * m)) table (m * m)
     → JoinedBy m left right table net (grown net left right digits)
 joined-table m left right table net digits lefts rights room long is n f last a b levels same =
-    joined n f last a b left right net digits lefts rights m levels room
-    (is ∙ ap (λ (front : List ℕ). take (net .gates * (m * m)) (net .digits) ++ front ++ drop (net .gates * (m * m) + m * m) (net .digits)) fronts)
+    record {
+      levels = refl;
+      inputs = refl;
+      count = refl;
+      gates = gates-grown net left right own digits lefts rights (rw levels room) (rw levels (digits-count m n f last a b)) (rw levels
+          (is ∙ ap (λ (front : List ℕ). take (net .gates * (m * m)) (net .digits) ++ front ++ drop (net .gates * (m * m) + m * m) (net .digits)) fronts));
+    }
   where
     own : List ℕ
     own = gateDigits m n f last a b

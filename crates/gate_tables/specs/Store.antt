@@ -1,13 +1,17 @@
--- The samples of all wires in one array, where those of wire r start at r times the most levels.
+-- One row for each wire in one array: the wire's group, the number of its samples, and these.
 -- Assumes nothing.
-use Rattle.laws.specs.Prelude.{ℕ, _<_, _≤_, _+_, _-_, _^_, _*_, _≡_, _∙_, sym, ap, refl, subst⁻¹, List, zero-add, ℕ-discrete, arith, length, getD, take}
-use Rattle.laws.specs.Prelude.{drop, set, length-set, length-drop, length-take, getD-set-same, getD-set-other, getD-take, ext-getD, getD-drop, eq-eqb}
+use Rattle.laws.specs.Prelude.{ℕ, _<_, _≤_, _+_, _-_, _^_, _*_, _≡_, _∙_, sym, ap, refl, subst⁻¹, List, zero-add, ℕ-discrete, arith, length, getD, take, drop}
+use Rattle.laws.specs.Prelude.{set, length-set, length-drop, length-take, getD-set-same, getD-set-other, getD-take, ext-getD, getD-drop, eq-eqb}
 use Rattle.rules.specs.Limits.{mostLevels}
+use Rattle.rules.specs.Nets.Wirings.{Link}
+use Rattle.rules.specs.Nets.Filling.{inputGroups}
 use Rattle.laws.specs.Lists.Ranges.{map-range-at}
+use Rattle.laws.specs.Lists.WithEach.{with-each-earlier}
 use Rattle.radix.specs.Fronts.{Front}
 use Rattle.trees.specs.Groups.Members.{single-below, size-single}
 use Rattle.trees.specs.Groups.Classes.{Few}
 use Rattle.trees.specs.Filling.Carried.{single-few, first-single}
+use Rattle.trees.specs.Filling.Fillings.{linkGroup, withGroups, inputs-grouped}
 use Rattle.trees.specs.Leaves.Neighbours.{levelPoints}
 use Rattle.gate_tables.specs.Samples.{samples, samples-few, samples-single, level-points-length}
 
@@ -20,19 +24,18 @@ pub record PutAt (value : ℕ → ℕ) (at count : ℕ) (before after : List ℕ
 pub put-none : (value : ℕ → ℕ) (at : ℕ) (before : List ℕ) → PutAt value at 0 before before
 put-none value at before = record { long = refl; here = λ i h. absurd (omega arith); earlier = λ j h. refl }
 
-pub put-next : (value : ℕ → ℕ) (at count : ℕ) (before after : List ℕ) → PutAt value at count before after → at + count < length after → (x : ℕ)
-    → x ≡ value count
-    → PutAt value at (count + 1) before (set after (at + count) x)
-put-next value at count before after put room x is =
+pub put-next : (value : ℕ → ℕ) (at count : ℕ) (before after : List ℕ) → PutAt value at count before after → (p : ℕ) → p ≡ at + count → p < length after
+    → (x : ℕ) → x ≡ value count → PutAt value at (count + 1) before (set after p x)
+put-next value at count before after put p is-p room x is =
     record {
-      long = length-set after (at + count) x ∙ put .long;
+      long = length-set after p x ∙ put .long;
       here = λ i h. go i h (ℕ-discrete i count);
-      earlier = λ j h. getD-set-other after (at + count) j x 0 (λ e. omega arith) ∙ put .earlier j h;
+      earlier = λ j h. getD-set-other after p j x 0 (λ e. omega arith) ∙ put .earlier j h;
     }
   where
-    go : (i : ℕ) → i < count + 1 → Dec (i ≡ count) → getD (set after (at + count) x) (at + i) 0 ≡ value i
-    go i h (yes e) = rw e (getD-set-same after (at + count) x 0 room ∙ is)
-    go i h (no ne) = getD-set-other after (at + count) (at + i) x 0 (λ e. ne (omega arith)) ∙ put .here i (omega arith)
+    go : (i : ℕ) → i < count + 1 → Dec (i ≡ count) → getD (set after p x) (at + i) 0 ≡ value i
+    go i h (yes e) = rw (e, ← is-p) (getD-set-same after p x 0 room ∙ is)
+    go i h (no ne) = getD-set-other after p (at + i) x 0 (λ e. ne (omega arith)) ∙ put .here i (omega arith)
 
 -- the samples of a wire of group g: c of them, the values; the group has few classes
 pub record Wire (m n : ℕ) (f : ℕ → ℕ) (g c : ℕ) (value : ℕ → ℕ) : Type 0 where
@@ -41,19 +44,62 @@ pub record Wire (m n : ℕ) (f : ℕ → ℕ) (g c : ℕ) (value : ℕ → ℕ) 
   pub count : c ≡ length (samples m n f g)
   pub each : (u : ℕ) → u < c → value u ≡ getD (samples m n f g) u 0
 
--- the samples of the first k wires
-abbrev pub WireSamples : ℕ → ℕ → (ℕ → ℕ) → ℕ → List ℕ → List ℕ → List ℕ → Type 0
-WireSamples m n f k groups sizes stored = (r : ℕ) → r < k → Wire m n f (getD groups r 0) (getD sizes r 0) (λ u. getD stored (r * mostLevels + u) 0)
+-- the parts of row r
+abbrev pub groupAt : List ℕ → ℕ → ℕ
+groupAt wires r = getD wires (r * 11) 0
+
+abbrev pub sizeAt : List ℕ → ℕ → ℕ
+sizeAt wires r = getD wires (r * 11 + 1) 0
+
+abbrev pub samplesAt : List ℕ → ℕ → List ℕ
+samplesAt wires r = take (r * 11 + 2 + sizeAt wires r - (r * 11 + 2)) (drop (r * 11 + 2) wires)
+
+-- row r is written, and what was before it stays
+pub record RowPut (r g c : ℕ) (value : ℕ → ℕ) (before after : List ℕ) : Type 0 where
+  pub long : length after ≡ length before
+  pub group : groupAt after r ≡ g
+  pub size : sizeAt after r ≡ c
+  pub each : (u : ℕ) → u < c → getD after (r * 11 + 2 + u) 0 ≡ value u
+  pub earlier : (j : ℕ) → j < r * 11 → getD after j 0 ≡ getD before j 0
+
+-- its first two places, then the samples
+pub row-put : (r g c : ℕ) (value : ℕ → ℕ) (before after : List ℕ) → r * 11 + 1 < length before → (i : ℕ) → i ≡ c
+    → PutAt value (r * 11 + 2) i (set (set before (r * 11) g) (r * 11 + 1) c) after → RowPut r g c value before after
+row-put r g c value before after room i end put =
+    let at = r * 11 in
+    let one : length (set before at g) ≡ length before = length-set before at g in
+    record {
+      long = put .long ∙ length-set (set before at g) (at + 1) c ∙ one;
+      group = put .earlier at (omega arith) ∙ getD-set-other (set before at g) (at + 1) at c 0 (λ e. omega arith)
+          ∙ getD-set-same before at g 0 (omega arith);
+      size = put .earlier (at + 1) (omega arith) ∙ getD-set-same (set before at g) (at + 1) c 0 (omega arith);
+      each = λ u u<. put .here u (omega arith);
+      earlier = λ j h. put .earlier j (omega arith) ∙ getD-set-other (set before at g) (at + 1) j c 0 (λ e. omega arith)
+          ∙ getD-set-other before at j g 0 (λ e. omega arith);
+    }
+
+-- the rows of the first k wires, of these groups
+abbrev pub WireRows : ℕ → ℕ → (ℕ → ℕ) → List ℕ → ℕ → List ℕ → Type 0
+WireRows m n f groups k wires =
+    (r : ℕ) → r < k → (groupAt wires r ≡ getD groups r 0) × Wire m n f (getD groups r 0) (sizeAt wires r) (λ u. getD wires (r * 11 + 2 + u) 0)
+
+-- the inputs' rows are the first of a wiring's
+pub rows-start : (m n : ℕ) (f : ℕ → ℕ) (links : List Link) (wires : List ℕ) → WireRows m n f (inputGroups n) n wires
+    → WireRows m n f (withGroups (inputGroups n) links) (n + 0) wires
+rows-start m n f links wires all r h =
+    rw (with-each-earlier linkGroup 0 (inputGroups n) links r (omega (arith, inputs-grouped n .0))) (all r (omega arith))
 
 module _ (m n : ℕ) (pos : 0 < m) (f : ℕ → ℕ) where
-  pub input-wire : (i w : ℕ) → i < n → w ≡ m ^ (n - 1 - i) → Wire m n f (2 ^ i) m (λ l. l * w)
-  input-wire i w h weight =
-      record {
+  pub input-wire : (i g w : ℕ) → i < n → g ≡ 2 ^ i → w ≡ m ^ (n - 1 - i) → (before points : List ℕ) → PutAt (λ l. l * w) 0 m before points
+      → Wire m n f g m (λ l. getD points l 0)
+  input-wire i g w h is-g weight before points put = rw is-g
+      (record {
         few = single-few m n pos f i h;
         below = single-below i n h;
         count = sym (ap length is ∙ level-points-length m w);
-        each = λ u u<. ap (λ (l : ℕ). l * w) (sym (zero-add u)) ∙ sym (ap (λ (xs : List ℕ). getD xs u 0) is ∙ map-range-at (λ l. l * w) 0 m u 0 u<);
-      }
+        each = λ u u<. ap (λ (l : ℕ). getD points l 0) (sym (zero-add u)) ∙ put .here u u< ∙ ap (λ (l : ℕ). l * w) (sym (zero-add u))
+            ∙ sym (ap (λ (xs : List ℕ). getD xs u 0) is ∙ map-range-at (λ l. l * w) 0 m u 0 u<);
+      })
     where
       is : samples m n f (2 ^ i) ≡ levelPoints m w
       is =
@@ -69,37 +115,38 @@ module _ (m n : ℕ) (pos : 0 < m) (f : ℕ → ℕ) where
         each = λ u u<. sym (getD-take c firsts u 0 u<) ∙ ap (λ (xs : List ℕ). getD xs u 0) (front .is);
       }
 
-  module _ (k : ℕ) (groups sizes stored : List ℕ) (all : WireSamples m n f k groups sizes stored) where
+  module _ (groups : List ℕ) (k : ℕ) (wires : List ℕ) (all : WireRows m n f groups k wires) where
     -- a wire has at most m samples
-    pub size-few : (r : ℕ) → r < k → getD sizes r 0 ≤ m
-    size-few r h = subst⁻¹ (λ (c : ℕ). c ≤ m) (all r h .count) (samples-few m n f (getD groups r 0) (all r h .below) (all r h .few))
+    pub size-few : (r : ℕ) → r < k → sizeAt wires r ≤ m
+    size-few r h = let wire = all r h .1 in subst⁻¹ (λ (c : ℕ). c ≤ m) (wire .count) (samples-few m n f (getD groups r 0) (wire .below) (wire .few))
 
-    -- its part of the array
-    pub stored-part : (r from to : ℕ) → r < k → from ≡ r * mostLevels → to ≡ from + getD sizes r 0 → to ≤ length stored
-        → take (to - from) (drop from stored) ≡ samples m n f (getD groups r 0)
-    stored-part r from to h is-from is-to room =
-        let long : length (take (to - from) (drop from stored)) ≡ to - from = omega
-        (arith, length-take (to - from) (drop from stored), length-drop from stored) in
-        ext-getD 0 (take (to - from) (drop from stored)) (samples m n f (getD groups r 0)) (omega (arith, all r h .count))
-        (λ u u<.
-        getD-take (to - from) (drop from stored) u 0 (omega arith) ∙ getD-drop from stored u 0 ∙ ap (λ (i : ℕ). getD stored (i + u) 0) is-from
-        ∙ all r h .each u (omega (arith, all r h .count)))
+    -- they are its part of the array
+    pub row-samples : (r : ℕ) → r < k → r * 11 + 2 + sizeAt wires r ≤ length wires → samplesAt wires r ≡ samples m n f (getD groups r 0)
+    row-samples r h room =
+        let wire = all r h .1 in
+        let rest = drop (r * 11 + 2) wires in
+        let long : length (samplesAt wires r) ≡ sizeAt wires r = omega
+        (arith, length-take (r * 11 + 2 + sizeAt wires r - (r * 11 + 2)) rest, length-drop (r * 11 + 2) wires) in
+        ext-getD 0 (samplesAt wires r) (samples m n f (getD groups r 0)) (long ∙ wire .count)
+        (λ u u<. getD-take (r * 11 + 2 + sizeAt wires r - (r * 11 + 2)) rest u 0 (omega arith) ∙ getD-drop (r * 11 + 2) wires u 0 ∙ wire .each u (omega arith))
 
     -- one wire more
-    pub samples-next : (g c : ℕ) (value : ℕ → ℕ) (after : List ℕ) → m ≤ mostLevels → k < length groups → k < length sizes → Wire m n f g c value
-        → PutAt value (k * mostLevels) c stored after → WireSamples m n f (k + 1) (set groups k g) (set sizes k c) after
-    samples-next g c value after low g-room s-room new put r h = go (ℕ-discrete r k)
+    pub rows-next : (g c : ℕ) (value : ℕ → ℕ) (after : List ℕ) → m ≤ mostLevels → g ≡ getD groups k 0
+        → Wire m n f (getD groups k 0) c value → RowPut k g c value wires after → (more : ℕ) → more ≡ k + 1 → WireRows m n f groups more after
+    rows-next g c value after low is-g new put more is-more r h = go (ℕ-discrete r k)
       where
-        go : Dec (r ≡ k) → Wire m n f (getD (set groups k g) r 0) (getD (set sizes k c) r 0) (λ u. getD after (r * mostLevels + u) 0)
+        go : Dec (r ≡ k) → (groupAt after r ≡ getD groups r 0) × Wire m n f (getD groups r 0) (sizeAt after r) (λ u. getD after (r * 11 + 2 + u) 0)
         go (yes e) =
-            rw (e, getD-set-same groups k g 0 g-room, getD-set-same sizes k c 0 s-room)
-            (record { few = new .few; below = new .below; count = new .count; each = λ u u<. put .here u u< ∙ new .each u u< })
+            rw (e, put .size)
+            (put .group ∙ is-g, record { few = new .few; below = new .below; count = new .count; each = λ u u<. put .each u u< ∙ new .each u u< })
         go (no ne) =
             let old = all r (omega arith) in
-            rw (getD-set-other groups k r g 0 ne, getD-set-other sizes k r c 0 ne)
-            (record {
-              few = old .few;
-              below = old .below;
-              count = old .count;
-              each = λ u u<. put .earlier (r * mostLevels + u) (omega (arith, size-few r (omega arith))) ∙ old .each u u<;
-            })
+            rw (put .earlier (r * 11 + 1) (omega arith)) (
+              put .earlier (r * 11) (omega arith) ∙ old .0,
+              record {
+                few = old .1 .few;
+                below = old .1 .below;
+                count = old .1 .count;
+                each = λ u u<. put .earlier (r * 11 + 2 + u) (omega (arith, size-few r (omega arith))) ∙ old .1 .each u u<;
+              },
+            )

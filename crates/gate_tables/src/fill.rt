@@ -18,8 +18,8 @@ use radix::limits;
 use radix::powers;
 use wirings::forms as links;
 
-// The most samples of all wires of a net, and the most digits of a gate.
-const MOST_SAMPLES: usize = forms::MOST_WIRES * limits::MOST_LEVELS;
+// The length of all rows, and the most digits of a gate.
+const ALL_ROWS: usize = forms::MOST_WIRES * samples::ROW;
 
 const MOST_TABLE: usize = limits::MOST_LEVELS * limits::MOST_LEVELS;
 
@@ -69,35 +69,23 @@ fn fill_gates(m: usize, n: usize, cells: &[u8], wiring: links::Wiring, ys: &mut 
     let lefts = wiring.left;
     let rights = wiring.right;
     let count = wiring.gates;
-    let mut groups = [0u16; forms::MOST_WIRES];
-    let mut sizes = [0u8; forms::MOST_WIRES];
-    let mut stored = [0u16; MOST_SAMPLES];
-    samples::input_wires(m, n, &mut groups, &mut sizes, &mut stored);
+    let mut wires = [0u16; ALL_ROWS];
+    samples::input_wires(m, n, &mut wires);
     let mut net = forms::no_gates(m, n);
     let mut k: usize = 0;
     while k < count {
         let left = lefts[k];
         let right = rights[k];
-        let a = groups[left as usize] as usize;
-        let b = groups[right as usize] as usize;
-        let from_left = left as usize * limits::MOST_LEVELS;
-        let to_left = from_left + sizes[left as usize] as usize;
-        let from_right = right as usize * limits::MOST_LEVELS;
-        let to_right = from_right + sizes[right as usize] as usize;
         let mut firsts = [0u16; limits::MOST_LEVELS + 1];
         let mut table = [0u8; MOST_TABLE];
-        let classes = gate_pass::stored_classes(
+        let classes = gate_pass::gate_classes(
             m,
             n,
             cells,
-            a,
-            b,
+            &wires,
+            left,
+            right,
             k + 1 == count,
-            &stored,
-            from_left,
-            to_left,
-            from_right,
-            to_right,
             ys,
             &mut firsts,
             &mut table,
@@ -106,9 +94,8 @@ fn fill_gates(m: usize, n: usize, cells: &[u8], wiring: links::Wiring, ys: &mut 
             return net;
         }
         net = join(m, left, right, &table, net);
-        samples::put_samples(&firsts, classes, (n + k) * limits::MOST_LEVELS, &mut stored);
-        sizes[n + k] = classes as u8;
-        groups[n + k] = (a + b) as u16;
+        let group = samples::group_of(&wires, left) + samples::group_of(&wires, right);
+        samples::put_row(n + k, group, &firsts, classes, &mut wires);
         k += 1;
     }
     net

@@ -2,11 +2,14 @@
 // one of the right. So one pass over these sums, at most m·m, in rising order, finds the classes in their order, and what the gate gives at each sum.
 ghost use mathlib.Core.Path.{_≡_};
 ghost use mathlib.Core.Bool.{cond};
-ghost use Prim.Native.Nat.{_+_, _-_, _≤_, _<_};
-ghost use lib.ListN.{length, take, drop};
+ghost use Prim.Native.Nat.{_+_, _*_, _≤_, _<_};
+ghost use lib.ListN.{length, getD, set};
+ghost use Rattle.rules.specs.Limits.{mostLevels};
 ghost use Rattle.rules.specs.Calls.Answers.{inkIn};
 ghost use Rattle.gate_tables.specs.GateRows.{NextSum, NextRow};
+ghost use Rattle.gate_tables.specs.Store.{groupAt, sizeAt, samplesAt};
 ghost use Rattle.gate_tables.specs.GatePass.{PassReady, PassRoom, Passed};
+use crate::samples;
 use classes::alike;
 use radix::limits;
 use radix::offsets;
@@ -56,6 +59,17 @@ fn given(cells: &[u8], last: bool, class: usize, p: usize) -> u8
     if last { cells[p] } else { class as u8 }
 }
 
+// Writes x as the next digit of row u, and counts it as done.
+fn put_digit(m: usize, u: usize, x: u8, next: &mut [u8], table: &mut [u8])
+    requires { ⌜ (u < length (now next)) × (getD (now next) u 0 < mostLevels) × (u * m + getD (now next) u 0 < length (now table)) ⌝ }
+    ensures { λ _. ⌜ (now (next .exit) ≡ set (now (next .entry)) u (getD (now (next .entry)) u 0 + 1))
+        × (now (table .exit) ≡ set (now (table .entry)) (u * m + getD (now (next .entry)) u 0) x) ⌝ }
+{
+    let v = next[u] as usize;
+    table[u * m + v] = x;
+    next[u] = (v + 1) as u8;
+}
+
 // Returns how many classes are known after a sum of this class, if `count` were known before.
 fn counted(count: usize, class: usize) -> usize
     requires { ⌜ class < 256 ⌝ }
@@ -85,57 +99,44 @@ pub fn sum_classes(
     let other = offsets::other_offsets(m, n, a + b, ys);
     let mut next = [0u8; limits::MOST_LEVELS];
     let mut count: usize = 0;
-    let mut u = next_row(left, right, &next);
-    while u < left.len() {
-        let v = next[u] as usize;
-        let p = left[u] as usize + right[v] as usize;
+    loop {
+        let u = next_row(left, right, &next);
+        if left.len() <= u {
+            return count;
+        }
+        let p = next_sum(left, right, u, next[u] as usize);
         firsts[count] = p as u16;
         let class = alike::class_of(cells, &ys[0..other], firsts, count, p);
         if m <= class {
             return m + 1;
         }
-        table[u * m + v] = given(cells, last, class, p);
-        next[u] = (v + 1) as u8;
+        put_digit(m, u, given(cells, last, class, p), &mut next, table);
         count = counted(count, class);
-        u = next_row(left, right, &next);
     }
-    count
 }
 
-// Does what `sum_classes` does, for samples that are two parts of one array.
-pub fn stored_classes(
+// Does what `sum_classes` does, for two wires.
+pub fn gate_classes(
     m: usize,
     n: usize,
     cells: &[u8],
-    a: usize,
-    b: usize,
+    wires: &[u16],
+    left: u8,
+    right: u8,
     last: bool,
-    stored: &[u16],
-    from_left: usize,
-    to_left: usize,
-    from_right: usize,
-    to_right: usize,
     ys: &mut [u16],
     firsts: &mut [u16],
     table: &mut [u8],
 ) -> usize
-    requires { ⌜ («from_left» ≤ «to_left») × («to_left» ≤ length (now stored)) × («from_right» ≤ «to_right») × («to_right» ≤ length (now stored))
-        × PassReady m n (now cells) a b (take («to_left» - «from_left») (drop «from_left» (now stored)))
-        (take («to_right» - «from_right») (drop «from_right» (now stored)))
+    requires { ⌜ (left * 11 + 2 + sizeAt (now wires) left ≤ length (now wires)) × (right * 11 + 2 + sizeAt (now wires) right ≤ length (now wires))
+        × PassReady m n (now cells) (groupAt (now wires) left) (groupAt (now wires) right) (samplesAt (now wires) left) (samplesAt (now wires) right)
         × PassRoom m n (now ys) (now firsts) (now table) ⌝ }
-    ensures { λ r. ⌜ Passed m n (inkIn (now (cells .entry))) last a b r (now (firsts .exit)) (now (table .exit)) ⌝ }
+    ensures { λ r. ⌜ Passed m n (inkIn (now (cells .entry))) last (groupAt (now (wires .entry)) left) (groupAt (now (wires .entry)) right) r
+        (now (firsts .exit)) (now (table .exit)) ⌝ }
 {
-    sum_classes(
-        m,
-        n,
-        cells,
-        a,
-        b,
-        last,
-        &stored[from_left..to_left],
-        &stored[from_right..to_right],
-        ys,
-        firsts,
-        table,
-    )
+    let a = samples::group_of(wires, left) as usize;
+    let b = samples::group_of(wires, right) as usize;
+    let lefts = samples::samples_of(wires, left);
+    let rights = samples::samples_of(wires, right);
+    sum_classes(m, n, cells, a, b, last, lefts, rights, ys, firsts, table)
 }

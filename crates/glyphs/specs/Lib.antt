@@ -4,3 +4,4 @@ pub mod Glyph
 pub mod Offsets
 pub mod Pictures
 pub mod Rows
+pub mod Strips

@@ -15,8 +15,11 @@ use Rattle.laws.specs.Lists.Tests.{all-cons}
 use Rattle.nets.specs.Room.{mostWires}
 
 -- the distance between rows of the framed picture
-abbrev pub span : ℕ
-span = mostSide + 2 * mostOffset
+abbrev pub spanOf : ℕ → ℕ
+spanOf width = width + 2 * mostOffset
+
+abbrev pub mostSpan : ℕ
+mostSpan = spanOf mostSide
 
 -- 2 plus the offset, 0 to 4, if the offset is near; 5 otherwise
 unfoldable pub reach : ℤ → ℕ
@@ -26,9 +29,9 @@ reach (negsuc k) = cond (leb k 1) (1 - k) 5
 abbrev pub allNear : List ℤ → Bool
 allNear offsets = all (λ o. leb (natAbs o) mostOffset) offsets
 
--- where input i's levels begin
-abbrev pub startOf : List ℤ → ℕ → ℕ
-startOf offsets i = reach (down offsets i) * span + reach (across offsets i)
+-- where input i's levels begin for row y
+abbrev pub startOf : List ℤ → ℕ → ℕ → ℕ → ℕ
+startOf offsets span y i = (y + reach (down offsets i)) * span + reach (across offsets i)
 
 -- ---- near and far
 
@@ -147,16 +150,17 @@ module _ (n : ℕ) (offsets : List ℤ) (are : AreOffsets n offsets) (i : ℕ) (
   unfolding down
   down-near = reach-near _ (are .near (2 * i + 1) down-there)
 
--- the first i inputs have their starts
-pub record StartsAt (offsets : List ℤ) (i : ℕ) (starts : List ℕ) : Type 0 where
+-- the first i inputs have their starts for row y
+pub record StartsAt (offsets : List ℤ) (span y i : ℕ) (starts : List ℕ) : Type 0 where
   pub room : length starts ≡ mostWires
-  pub each : (j : ℕ) → j < i → getD starts j 0 ≡ startOf offsets j
+  pub each : (j : ℕ) → j < i → getD starts j 0 ≡ startOf offsets span y j
 
 -- one more input
-pub glyph-starts-more : (offsets : List ℤ) (i : ℕ) (starts : List ℕ) → StartsAt offsets i starts → i < mostWires → (start : ℕ) → start ≡ startOf offsets i
-    → StartsAt offsets (i + 1) (set starts i start)
-glyph-starts-more offsets i starts at low start is = record { room = length-set starts i start ∙ at .room; each = λ j h. go j h (ℕ-discrete j i) }
+pub glyph-starts-more : (offsets : List ℤ) (span y i : ℕ) (starts : List ℕ) → StartsAt offsets span y i starts → i < mostWires → (start : ℕ)
+    → start ≡ startOf offsets span y i → StartsAt offsets span y (i + 1) (set starts i start)
+glyph-starts-more offsets span y i starts at low start is =
+    record { room = length-set starts i start ∙ at .room; each = λ j h. go j h (ℕ-discrete j i) }
   where
-    go : (j : ℕ) → j < i + 1 → Dec (j ≡ i) → getD (set starts i start) j 0 ≡ startOf offsets j
+    go : (j : ℕ) → j < i + 1 → Dec (j ≡ i) → getD (set starts i start) j 0 ≡ startOf offsets span y j
     go j h (yes e) = rw e (getD-set-same starts i start 0 (omega (arith, at .room)) ∙ is)
     go j h (no other) = getD-set-other starts i j start 0 other ∙ at .each j (omega arith)

@@ -5,13 +5,21 @@ pub const MOST_SIDE: usize = 64;
 
 pub const MOST_OFFSET: usize = 2;
 
-// The distance between rows of the framed picture, and its number of cells.
-pub const SPAN: usize = MOST_SIDE + 2 * MOST_OFFSET;
+// The cells of a row of the framed picture beside those of the picture's row.
+pub const BORDER: usize = 2 * MOST_OFFSET;
 
-pub const FRAME: usize = SPAN * SPAN;
+// The lines of zeros above and below the picture, and one more, so that the last row of any input's levels is whole.
+pub const FRAME_LINES: usize = BORDER + 1;
 
-// The most cells of the frame from the first cell of a picture to its last.
-pub const MOST_PLACES: usize = (MOST_SIDE - 1) * SPAN + MOST_SIDE;
+// The most cells on a side of a small picture.
+pub const FEW_SIDE: usize = 16;
 
-// Room for the framed picture and the values of every gate at those places.
-pub const MOST_VALUES: usize = FRAME + MOST_COLUMNS * MOST_PLACES;
+// The most gates whose values are computed for all rows at once.
+pub const FEW_GATES: usize = 6;
+
+// Room for the framed picture and the values of every gate: of a small picture, and of any picture whose values are computed for all rows or for half.
+pub const FEW_VALUES: usize = (FEW_SIDE + FRAME_LINES + MOST_COLUMNS * FEW_SIDE)
+    * (FEW_SIDE + BORDER);
+
+pub const MOST_VALUES: usize = (MOST_SIDE + FRAME_LINES + FEW_GATES * MOST_SIDE)
+    * (MOST_SIDE + BORDER);

@@ -3,10 +3,9 @@ ghost use mathlib.Core.Path.{_≡_};
 ghost use Prim.Native.Nat.{ℕ, _≤_, _<_};
 ghost use lib.ListN.{getD};
 ghost use Rattle.rules.specs.Limits.{mostInputs};
-ghost use Rattle.rules.specs.Calls.Glyphs.{offsetsFit};
+ghost use Rattle.rules.specs.Calls.Glyphs.{mostSide, offsetsFit};
 ghost use Rattle.laws.specs.Calls.Glyphs.{AreOffsets};
-ghost use Rattle.glyphs.specs.Offsets.{reach, allNear, startOf};
-use crate::limits::SPAN;
+ghost use Rattle.glyphs.specs.Offsets.{mostSpan, reach, allNear, startOf};
 use nets::forms::MOST_WIRES;
 
 // A number that no reach has.
@@ -52,17 +51,17 @@ pub fn offsets_fit(n: usize, offsets: &[i8]) -> bool
     all_near(offsets)
 }
 
-// Returns where in the framed picture the levels of each input begin: at the cell that is read for the first cell of the picture.
-pub fn starts_of(n: usize, offsets: &[i8]) -> [usize; MOST_WIRES]
-    requires { ⌜ (n ≤ mostInputs) × AreOffsets n (now offsets) ⌝ }
-    ensures { λ r. ⌜ ((i : ℕ) → i < n → getD r i 0 ≡ startOf (now (offsets .entry)) i) ⌝ }
+// Returns where in the framed picture, whose rows are `span` apart, the levels of each input begin: at the cell that is read for the first cell of row y.
+pub fn starts_of(n: usize, offsets: &[i8], span: usize, y: usize) -> [usize; MOST_WIRES]
+    requires { ⌜ (n ≤ mostInputs) × AreOffsets n (now offsets) × (span ≤ mostSpan) × (y ≤ mostSide) ⌝ }
+    ensures { λ r. ⌜ ((i : ℕ) → i < n → getD r i 0 ≡ startOf (now (offsets .entry)) span y i) ⌝ }
 {
     let mut starts = [0usize; MOST_WIRES];
     let mut i: usize = 0;
     while i < n {
         let across = offsets[2 * i];
         let down = offsets[2 * i + 1];
-        starts[i] = reach_of(down) * SPAN + reach_of(across);
+        starts[i] = (y + reach_of(down)) * span + reach_of(across);
         i += 1;
     }
     starts

@@ -1,13 +1,16 @@
 -- A step to the next group, in the bytes of a job.
 -- Assumes nothing.
-use Rattle.laws.specs.Prelude.{ℕ, _<_, _≤_, _+_, _-_, _^_, suc, zero, _≡_, _∙_, sym, ap, refl, ap₂, List, [], _∷_, _++_, sub-zero, arith, length, take}
+use Rattle.laws.specs.Prelude.{ℕ, _<_, _≤_, _+_, _-_, _^_, suc, zero, _≡_, _∙_, sym, ap, refl, true, ap₂, List, [], _∷_, _++_, sub-zero, arith, length, take}
 use Rattle.laws.specs.Prelude.{drop, set, length-set, take-append-drop, length-take-le, drop-set-lt, pow-mono}
+use Rattle.rules.specs.Limits.{sizeFits, mostLevels}
 use Rattle.rules.specs.Sheets.Sheets.{Table}
 use Rattle.rules.specs.Groups.Groups.{wholeGroup}
 use Rattle.rules.specs.Groups.Marks.{markOf}
 use Rattle.rules.specs.Calls.Answers.{inkIn, written}
 use Rattle.rules.specs.Calls.Jobs as rules
 use Rattle.rules.specs.Calls.Jobs.{noTable, groupsOf, further}
+use Rattle.laws.specs.Numbers.Sizes.{sized}
+use Rattle.classes.specs.Within.{OffsetRoom}
 use Rattle.nets.specs.declared.forms.Header.{Header}
 use Rattle.nets.specs.Forms.{headerOf}
 use Rattle.jobs.specs.Forms.{mostGroups, tableFrom, jobIn, Fronted, job-front-table, front-job, front-groups}
@@ -103,6 +106,36 @@ whole-group n past e g is = sym is ∙ ap (λ (k : ℕ). k - 1) e
 pub whole-some : (n : ℕ) → 0 < n → (g : ℕ) → g ≡ wholeGroup n → 0 < g
 unfolding wholeGroup
 whole-some n some g is = omega (arith, pow-mono some)
+
+-- what marking group g of m levels and n inputs requires
+pub record MarkReady (m n : ℕ) (inks : List ℕ) (g : ℕ) (marks : List ℕ) : Type 0 where
+  pub fits : sizeFits m n ≡ true
+  pub count : length inks ≡ m ^ n
+  pub group : g < 2 ^ n
+  pub room : 2 ^ n ≤ length marks
+
+-- the most inks of a small table
+abbrev pub fewInks : ℕ
+fewInks = 256
+
+-- work arrays as long as the table have room
+pub mark-room : (m n : ℕ) (inks : List ℕ) (g : ℕ) (marks : List ℕ) → MarkReady m n inks g marks → (xs ys : List ℕ) → length inks ≤ length xs
+    → length inks ≤ length ys → OffsetRoom m n inks xs ys × (m ≤ mostLevels) × (g < 2 ^ n) × (g ≤ length marks)
+mark-room m n inks g marks ready xs ys for-xs for-ys =
+    let fit = sized m n (ready .fits) in
+    let e = ready .count in (
+      record {
+        some = omega (arith, fit .levels-least);
+        inputs = omega (arith, fit .inputs-most);
+        small = omega (arith, fit .cells-most);
+        for-cells = omega (arith, e);
+        for-xs = omega (arith, e);
+        for-ys = omega (arith, e);
+      },
+      fit .levels-most,
+      ready .group,
+      omega (arith, ready .group, ready .room),
+    )
 
 -- a job with no table
 pub next-none : (lines cells marks : List ℕ) (passed : ℕ) → tableFrom lines cells ≡ noTable → NextMark (jobIn lines cells marks passed) Done

@@ -8,7 +8,7 @@ ghost use Rattle.rules.specs.Groups.Groups.{wholeGroup};
 ghost use Rattle.rules.specs.Groups.Marks.{markOf};
 ghost use Rattle.rules.specs.Calls.Answers.{inkIn};
 ghost use Rattle.jobs.specs.Forms.{Fronted, mostGroups, jobIn};
-ghost use Rattle.jobs.specs.Stepping.{NextMark, withMark};
+ghost use Rattle.jobs.specs.Stepping.{MarkReady, fewInks, NextMark, withMark};
 use crate::job::Job;
 use cells::bound::first_at_least;
 use fields::header::first_lines::header_lines;
@@ -18,6 +18,9 @@ use marks::group_mark;
 use nets::forms::Header;
 use radix::limits;
 use radix::powers;
+
+// The most inks of a table for which small work arrays are enough. Clearing large ones takes longer than marking a group of such a table.
+const FEW_INKS: usize = 256;
 
 pub enum Next {
     Done,
@@ -35,12 +38,24 @@ fn is_whole_of_full(m: usize, n: usize, inks: &[u8], g: usize) -> bool
     first_at_least(m, inks) == inks.len()
 }
 
-// Returns the mark of group g, from the marks of the groups below it. The whole group of a full table is not counted, so its step takes no longer
-// than the others.
-fn mark_one(m: usize, n: usize, inks: &[u8], g: usize, marks: &[u8]) -> u8
-    requires { ⌜ (sizeFits m n ≡ true) × (length (now inks) ≡ m ^ n) × (g < 2 ^ n) × (2 ^ n ≤ length (now marks)) ⌝ }
+// Returns the mark of group g of a small table, from the marks of the groups below it.
+fn mark_one_small(m: usize, n: usize, inks: &[u8], g: usize, marks: &[u8]) -> u8
+    requires { ⌜ MarkReady m n (now inks) g (now marks) × (length (now inks) ≤ fewInks) ⌝ }
     ensures { λ r. ⌜ r ≡ markOf m n (inkIn (now (inks .entry))) (now (marks .entry)) g ⌝ }
 {
+    let mut xs = [0u16; FEW_INKS];
+    let mut ys = [0u16; FEW_INKS];
+    group_mark::mark_group(m, n, inks, g, &mut xs, &mut ys, marks)
+}
+
+// Does the same for any table. The whole group of a full table is not counted, so its step takes no longer than the others.
+fn mark_one(m: usize, n: usize, inks: &[u8], g: usize, marks: &[u8]) -> u8
+    requires { ⌜ MarkReady m n (now inks) g (now marks) ⌝ }
+    ensures { λ r. ⌜ r ≡ markOf m n (inkIn (now (inks .entry))) (now (marks .entry)) g ⌝ }
+{
+    if inks.len() <= FEW_INKS {
+        return mark_one_small(m, n, inks, g, marks);
+    }
     if is_whole_of_full(m, n, inks, g) {
         return group_mark::few_mark(marks, g);
     }

@@ -1,4 +1,5 @@
 pub mod Calls
+pub mod Cases
 pub mod Lists
 pub mod Nets
 pub mod Numbers

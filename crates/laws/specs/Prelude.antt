@@ -1,5 +1,5 @@
--- The kit's names that most files use, passed on unchanged: numbers, equality, lists, tests, and facts for the tactics. One line of imports from here
--- stands for ten from the kit. The definitions in `rules` and the contracts name the kit's own modules instead.
+-- The kit's names that most files use, passed on unchanged: numbers, equality, lists, tests, and facts for the tactics; and proofs by cases. One line of
+-- imports from here replaces ten. The definitions in `rules` and the contracts name the kit's own modules instead.
 -- Assumes nothing.
 pub use Prim.Native.Nat.{ℕ, _<_, _≤_, _+_, _-_, _^_, suc, _*_, zero, _%_, _/_, max, min, suc-le-suc, zero-le}
 pub use mathlib.Core.Path.{_≡_, _∙_, sym, ap, refl, subst, ap₂, subst⁻¹, subst₂, fun-ext, _∎, _≡⟨_⟩_}
@@ -34,3 +34,4 @@ pub use borrow.Author.Tests.{ltb-false}
 pub use borrow.Author.Needs.{needs}
 pub use lib.Arith.{digits-lt, digits-mod, digits-div, lt-one, lt-of-le-ne, mod-mul, sub-sub-self}
 pub use lib.Pow.{pow-mono, pow-pos, pow-add, pow-lt, shl-lt}
+pub use Rattle.laws.specs.Cases.{test-cases, answer-cases, read-cases, judged-cases}

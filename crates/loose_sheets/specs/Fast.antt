@@ -3,4 +3,3 @@ pub mod Framed
 pub mod Laying
 pub mod Matching
 pub mod Plain
-pub mod Weighing

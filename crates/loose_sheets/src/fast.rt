@@ -2,4 +2,3 @@
 pub mod frame;
 pub mod matching;
 pub mod plain;
-pub mod weighing;

@@ -14,7 +14,6 @@ use crate::reader::sheet::read_loose;
 use answers::answer::Answer;
 use answers::outcome::Outcome;
 use fields::runs::NEWLINE;
-use fields::runs::SPACE;
 use net_sheets::text::put::copy;
 use nets::forms::Header;
 use radix::limits::MOST_CELLS;
@@ -73,32 +72,14 @@ fn tidy_loose(sheet: &[u8], cells: &mut [u8], out: &mut [u8]) -> Answer
     let mut inks = [0u8; MOST_CELLS];
     let read = read_loose(sheet, &mut inks);
     let outcome = read.outcome;
-    let header = read.header;
     match outcome {
         Outcome::Refused { number, place } => Answer::Refused { number, place },
-        Outcome::Accepted => tidy_accepted(sheet, header, &inks, false, cells, out),
+        Outcome::Accepted => tidy_accepted(sheet, read.header, &inks, false, cells, out),
     }
 }
 
-// Tidies a sheet that may be strict. It tries the table reader first, which is faster: a strict sheet is copied unchanged.
-fn tidy_either(sheet: &[u8], cells: &mut [u8], out: &mut [u8]) -> Answer
-    ensures { λ r. ⌜ tidiedOf r (now (cells .exit)) (now (out .exit)) ≡ tidyCall (now (sheet .entry)) (now (cells .entry)) (now (out .entry)) ⌝ }
-{
-    let mut inks = [0u8; MOST_CELLS];
-    let read = read_table(sheet, &mut inks);
-    let outcome = read.outcome;
-    let header = read.header;
-    match outcome {
-        Outcome::Refused {
-            number: _,
-            place: _,
-        } => tidy_loose(sheet, cells, out),
-        Outcome::Accepted => tidy_accepted(sheet, header, &inks, true, cells, out),
-    }
-}
-
-// Tests whether all levels of the last row are the same digit, each followed by one space, as in the last row of a table sheet. No promise depends
-// on this: it only decides which way of reading is tried first.
+// Tests whether every second byte of the last row up to its ink is the same, as in the last row of a table sheet. No promise depends on this: it only
+// decides which way of reading is tried first.
 fn ends_at_top(s: &[u8]) -> bool {
     if s.len() < 4 {
         return false;
@@ -107,9 +88,6 @@ fn ends_at_top(s: &[u8]) -> bool {
     let mut p = s.len() - 4;
     while 1 < p {
         if s[p] != top {
-            return false;
-        }
-        if s[p + 1] != SPACE {
             return false;
         }
         if s[p - 1] == NEWLINE {
@@ -121,12 +99,21 @@ fn ends_at_top(s: &[u8]) -> bool {
 }
 
 // Puts the inks of a loose table sheet in the cells buffer, in index order, writes its table sheet to the front of `out`, and returns the length.
-// The sheet may be any bytes.
+// The sheet may be any bytes. If it ends like a table sheet, the table reader is tried first, which is faster: a strict sheet is copied unchanged.
 pub fn tidy(sheet: &[u8], cells: &mut [u8], out: &mut [u8]) -> Answer
     ensures { λ r. ⌜ tidiedOf r (now (cells .exit)) (now (out .exit)) ≡ tidyCall (now (sheet .entry)) (now (cells .entry)) (now (out .entry)) ⌝ }
 {
-    if ends_at_top(sheet) {
-        return tidy_either(sheet, cells, out);
+    if !ends_at_top(sheet) {
+        return tidy_loose(sheet, cells, out);
     }
-    tidy_loose(sheet, cells, out)
+    let mut inks = [0u8; MOST_CELLS];
+    let read = read_table(sheet, &mut inks);
+    let outcome = read.outcome;
+    match outcome {
+        Outcome::Refused {
+            number: _,
+            place: _,
+        } => tidy_loose(sheet, cells, out),
+        Outcome::Accepted => tidy_accepted(sheet, read.header, &inks, true, cells, out),
+    }
 }

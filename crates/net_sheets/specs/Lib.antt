@@ -1,4 +1,3 @@
-pub mod Lister
 pub mod Printer
 pub mod Reader
 pub mod Text

@@ -1,5 +1,4 @@
-// Net sheets: the reader, the printer and the gate lister; also the text functions that all printers use.
-pub mod lister;
+// Net sheets: the reader and the printer; also the text functions that all printers use.
 pub mod printer;
 pub mod reader;
 pub mod text;

@@ -7,9 +7,11 @@ use Rattle.rules.specs.Sheets.SheetRules.{IsNet, NetRules}
 use Rattle.rules.specs.Groups.Marks.{markIn, marksOf, noTreePlace, storedMarks}
 use Rattle.rules.specs.Groups.Groups.{wholeGroup}
 use Rattle.rules.specs.Calls.Answers.{accepted, onward, refused, inkIn, written}
+use Rattle.rules.specs.Calls.Answers as answers
+use Rattle.rules.specs.Calls.ShallowSettling as shallow
 use Rattle.rules.specs.Sheets.Sheets.{Gate, Net, Table}
 use Rattle.rules.specs.Nets.Layers.{layers}
-use Rattle.rules.specs.Calls.Settling.{roomFor, settledNet, writtenSheet, afterMarks}
+use Rattle.rules.specs.Calls.Settling.{Made, roomFor, settledNet, writtenSheet, afterMarks}
 use Rattle.rules.specs.Calls.ShallowSettling.{layered, layeredInto, netLayers, shallowNet, withLayers}
 use Rattle.laws.specs.Calls.Settling.{marksOfTable, into-refused, into-room, marked-16, marked-tree}
 use Rattle.nets.specs.declared.forms.Header.{Header}
@@ -49,6 +51,14 @@ refused-layers : (count number place : ℕ) (cells marks output : List ℕ)
     ≡ record { answer = refused number place; cells = cells; marks = marks; output = output }
 unfolding withLayers layered onward
 refused-layers count number place cells marks output = refl
+
+-- the answer to writing a sheet, with a count of layers
+pub written-layers : (answer : answers.Answer shallow.Layered) (count : ℕ) (r : Answer) → answer ≡ layered count (answerOf r) → (own : ℕ) → count ≡ own
+    → (cells marks after : List ℕ) (made : Made) → madeOf r cells marks after ≡ made
+    → record { answer = answer; cells = cells; marks = marks; output = after } ≡ withLayers own made
+unfolding withLayers
+written-layers answer count r is own counts cells marks after made wrote =
+    (λ i. record { answer = is i; cells = cells; marks = marks; output = after }) ∙ ap₂ withLayers counts wrote
 
 -- the outcomes decided by the room alone
 module _ (netFor : Table → Net) (t : Table) (cells marks output : List ℕ) where
@@ -105,10 +115,10 @@ module _ (s : List ℕ) (h : Header) (inks : List ℕ) (given : Given s h inks) 
     unfolding headerOf
     made-is = net-is net is ∙ sym (netBy-is choice (tableIn s h inks))
 
-    -- the counted layers are those of that net
-    pub made-layers : (count : ℕ) → count ≡ layers (net .inputs) (gatesOf net) → count ≡ netLayers (netBy choice (tableIn s h inks))
+    -- its layers are those of that net
+    made-layers : layers (net .inputs) (gatesOf net) ≡ netLayers (netBy choice (tableIn s h inks))
     unfolding netLayers headerOf
-    made-layers count e = e ∙ ap (λ (n : ℕ). layers n (gatesOf net)) (is .inputs) ∙ ap netLayers made-is
+    made-layers = ap (λ (n : ℕ). layers n (gatesOf net)) (is .inputs) ∙ ap netLayers made-is
 
   -- ---- the outcomes once the cells and the marks are written
 
@@ -137,15 +147,14 @@ module _ (s : List ℕ) (h : Header) (inks : List ℕ) (given : Given s h inks) 
           (sym (marked-16 (netBy choice) (tableIn s h inks) cells marks output (λ two. other (did .own .answer ∙ two))))
 
     pub given-tree : (choice : Choice) (cells cells-then output : List ℕ) → cells-then ≡ written cells inks → mark ≡ 2
-        → (net : own.Net) → MadeNet choice (h .levels) (h .inputs) (inkIn inks) net → (r : Answer) (after : List ℕ)
-        → ((own-cells own-marks : List ℕ) → madeOf r own-cells own-marks after ≡ writtenSheet (printedNet (netIn s h net)) own-cells own-marks output)
-        → (count : ℕ) → count ≡ layers (net .inputs) (gatesOf net) → (answer : Layered) → layeredOf answer ≡ layered count (answerOf r)
+        → (net : own.Net) → MadeNet choice (h .levels) (h .inputs) (inkIn inks) net → (answer : Layered) (after : List ℕ)
+        → layeredMadeOf answer cells-then marks-then after
+        ≡ withLayers (layers (net .inputs) (gatesOf net)) (writtenSheet (printedNet (netIn s h net)) cells-then marks-then output)
         → layeredMadeOf answer cells-then marks-then after
         ≡ withLayers (netLayers (netBy choice (tableIn s h inks))) (afterMarks (netBy choice) (tableIn s h inks) cells marks output)
-    unfolding headerOf withLayers
-    given-tree choice cells cells-then output copied two net is r after wrote count counts answer given-answer =
-        (λ i. record { answer = given-answer i; cells = cells-then; marks = marks-then; output = after })
-        ∙ ap₂ withLayers (made-layers choice net is count counts)
-        (wrote cells-then marks-then
-        ∙ (λ i. writtenSheet (printedNet (made-is choice net is i)) (copied i) (did .buffer i) output)
+    unfolding headerOf
+    given-tree choice cells cells-then output copied two net is answer after wrote =
+        wrote
+        ∙ ap₂ withLayers (made-layers choice net is)
+        ((λ i. writtenSheet (printedNet (made-is choice net is i)) (copied i) (did .buffer i) output)
         ∙ sym (marked-tree (netBy choice) (tableIn s h inks) cells marks output (given-two two)))

@@ -47,11 +47,9 @@ pub fn settle_by(
 {
     let read = net::read_net(s);
     let outcome = read.outcome;
-    let header = read.header;
-    let gates = read.net;
     match outcome {
         Outcome::Refused { number, place } => Layered::Refused { number, place },
-        Outcome::Accepted => settle_net(choice, s, header, gates, cells, marks, out),
+        Outcome::Accepted => settle_net(choice, s, read.header, read.net, cells, marks, out),
     }
 }
 
@@ -69,12 +67,11 @@ pub fn make_by(
     let mut inks = [0u8; limits::MOST_CELLS];
     let input = read_input(s, &mut inks, cells, marks);
     let outcome = input.outcome;
-    let header = input.header;
     let count = input.count;
     match outcome {
         Outcome::Refused { number, place } => Layered::Refused { number, place },
         Outcome::Accepted => {
-            settle_marked(choice, s, header, &inks[0..count], cells, marks, out)
+            settle_marked(choice, s, input.header, &inks[0..count], cells, marks, out)
         }
     }
 }

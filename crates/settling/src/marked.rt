@@ -1,13 +1,19 @@
 // From a table to its marks and the sheet of the net made from it, if the cells and the marks have room.
 ghost use mathlib.Core.Path.{_≡_};
-ghost use Prim.Native.Nat.{_≤_};
+ghost use mathlib.Core.List.{List};
+ghost use Prim.Native.Nat.{ℕ, _≤_};
 ghost use lib.ListN.{length};
+ghost use Rattle.rules.specs.Limits.{mostSettled};
 ghost use Rattle.rules.specs.Groups.Marks.{marksLength};
-ghost use Rattle.rules.specs.Calls.Settling.{afterMarks};
-ghost use Rattle.rules.specs.Calls.ShallowSettling.{layered, netLayers, withLayers};
-ghost use Rattle.nets.specs.Forms.{tableIn};
-ghost use Rattle.answers.specs.AnswerMaps.{answerOf};
-ghost use Rattle.answers.specs.Layered.{layeredMadeOf, layeredOf};
+ghost use Rattle.rules.specs.Nets.Layers.{layers};
+ghost use Rattle.rules.specs.Sheets.Printed.{printedNet};
+ghost use Rattle.rules.specs.Calls.Settling.{afterMarks, writtenSheet};
+ghost use Rattle.rules.specs.Calls.ShallowSettling.{netLayers, withLayers};
+ghost use Rattle.nets.specs.Forms.{gatesOf, netIn, tableIn};
+ghost use Rattle.nets.specs.Sound.{Sound};
+ghost use Rattle.net_sheets.specs.Text.Names.{NamesInside};
+ghost use Rattle.net_sheets.specs.Printer.Gates.{GatesInside};
+ghost use Rattle.answers.specs.Layered.{layeredMadeOf};
 ghost use Rattle.accepted.specs.Taken.{Given};
 ghost use Rattle.settling.specs.Outcomes.{netBy};
 use answers::answer::Answer;
@@ -19,15 +25,19 @@ use marks::own;
 use net_sheets::printer::output;
 use net_sheets::text::put::copy;
 use nets::forms::Header;
+use nets::forms::Net;
 use nets::layers;
 use wirings::choice::Choice;
 use wirings::leaves::group;
 
-// Returns the answer with the count of layers.
-fn with_layers(answer: Answer, layers: usize) -> Layered
-    ensures { λ r. ⌜ layeredOf r ≡ layered layers (answerOf answer) ⌝ }
+// Writes the sheet of a net and returns its length with the count of layers, or refuses with 15.
+fn write_layered(s: &[u8], header: Header, net: Net, out: &mut [u8]) -> Layered
+    requires { ⌜ NamesInside (now s) header × GatesInside net × (length (printedNet (netIn (now s) header net)) ≤ mostSettled) × Sound net ⌝ }
+    ensures { λ r. ⌜ ((cells marks : List ℕ) → layeredMadeOf r cells marks (now (out .exit)) ≡ withLayers (layers (net .inputs) (gatesOf net))
+        (writtenSheet (printedNet (netIn (now (s .entry)) header net)) cells marks (now (out .entry)))) ⌝ }
 {
-    match answer {
+    let layers = layers::layers(net);
+    match output::write_sheet(s, header, net, out) {
         Answer::Accepted(length) => Layered::Accepted { length, layers },
         Answer::Refused { number, place } => Layered::Refused { number, place },
     }
@@ -61,6 +71,5 @@ pub fn settle_marked(
     }
     let leaves = group::leaves(inputs, marked.idle);
     let net = made::made_net(choice, levels, inputs, inks, &own, leaves);
-    let count = layers::layers(net);
-    with_layers(output::write_sheet(s, header, net, out), count)
+    write_layered(s, header, net, out)
 }

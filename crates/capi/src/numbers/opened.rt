@@ -1,9 +1,9 @@
 // The start of a lister as two numbers.
 ghost use mathlib.Core.Path.{_≡_};
-ghost use Rattle.net_sheets.specs.Lister.Calls.{openedAs};
+ghost use Rattle.lister.specs.Calls.{openedAs};
 ghost use Rattle.capi.specs.Numbers.Flat.{flatOf};
 use crate::numbers::flat::SitgurpAnswer;
-use net_sheets::lister::calls::Opened;
+use lister::calls::Opened;
 
 // Number 0: `value` is the position of the first gate line. Any other number: that refusal, and `value` is its place.
 pub fn flat_opened(opened: Opened) -> SitgurpAnswer

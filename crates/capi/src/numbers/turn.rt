@@ -1,9 +1,9 @@
 // A turn of the gate lister as a kind and two numbers.
 ghost use mathlib.Core.Path.{_≡_};
-ghost use Rattle.net_sheets.specs.Lister.Calls.{listedAs};
+ghost use Rattle.lister.specs.Calls.{listedAs};
 ghost use Rattle.capi.specs.Numbers.Turn.{flatTurn};
-use net_sheets::lister::calls::Listed;
-use net_sheets::lister::turns::Turn;
+use lister::calls::Listed;
+use lister::turns::Turn;
 
 // Kind 0: no line is left. Kind 1: a gate line of `second` bytes that begins at `first`. Kind 2: the sheet is refused, with number `first` at
 // place `second`.

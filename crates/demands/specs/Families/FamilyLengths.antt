@@ -1,14 +1,15 @@
 -- With buffers of the lengths that include/sitgurp.h calls enough, the count call refuses only with its sheet's numbers, and the call for a number
 -- with those and 17.
 -- Assumes nothing.
-use Rattle.laws.specs.Prelude.{ℕ, _<_, _≤_, _≡_, _∙_, sym, refl, List, [], _∷_, le-trans, length}
-use Rattle.rules.specs.Lists.{all, any}
-use Rattle.rules.specs.Limits.{mostCells}
-use Rattle.rules.specs.Sheets.Sheets.{Table}
-use Rattle.rules.specs.Sheets.Printed.{printedNet}
+use Rattle.laws.specs.Prelude.{ℕ, _<_, _≤_, _≡_, _∙_, sym, refl, List, [], _∷_, le-trans, length, answer-cases}
 use Rattle.rules.specs.Calls.Answers.{Answer, accepted, refused}
-use Rattle.rules.specs.Calls.Settling.{Made}
 use Rattle.rules.specs.Calls.FamilyCalls.{countOfTable, Counted, familyNet, familyCountCall, familyTreeCall}
+use Rattle.rules.specs.Calls.OpenCells.{readFull}
+use Rattle.rules.specs.Calls.Settling.{Made}
+use Rattle.rules.specs.Limits.{mostCells}
+use Rattle.rules.specs.Lists.{all, any}
+use Rattle.rules.specs.Sheets.Printed.{printedNet}
+use Rattle.rules.specs.Sheets.Sheets.{Table}
 use Rattle.laws.specs.Calls.Answers.{not-refused}
 use Rattle.laws.specs.Lists.Distinct.{In, wider}
 use Rattle.laws.specs.Calls.FamilyCalls.{family-count-refused, family-tree-refused}
@@ -19,7 +20,6 @@ use Rattle.demands.specs.Families.FamilyOutcomes.{made-answer, counted-a
 use Rattle.demands.specs.Families.FamilyOutcomes.{judge-number}
 use Rattle.demands.specs.Families.FamilyTables.{family-as-long}
 use Rattle.demands.specs.Families.FamilySheets.{writes-tree, tree-short}
-use Rattle.rules.specs.Calls.OpenCells.{readFull}
 use Rattle.demands.specs.Sheets.FullSheets.{fullNumbers, full-accepted, full-refusal}
 
 -- enough for the cells and the marks of every accepted sheet of a full table
@@ -30,14 +30,12 @@ ample-on s cells marks cells-most marks-most t reads =
 
 pub family-count-ample-numbers : (s cells marks : List ℕ) → mostCells ≤ length cells → mostMarks ≤ length marks
     → Gives fullNumbers (familyCountCall s cells marks .answer)
-family-count-ample-numbers s cells marks cells-most marks-most number place e = go (readFull s) refl
+family-count-ample-numbers s cells marks cells-most marks-most number place e = answer-cases (readFull s)
+    (λ k at d. refuses fullNumbers k at (full-refusal s k at d) number place (answer _ (family-count-refused s cells marks k at d)))
+    (λ t d. absurd (not-refused (countOfTable t) number place (answer _ (ample-on s cells marks cells-most marks-most t d .counts))))
   where
     answer : (made : Counted) → familyCountCall s cells marks ≡ made → made .answer ≡ refused number place
     answer made d = sym (counted-answer d) ∙ e
-
-    go : (a : Answer Table) → readFull s ≡ a → In number fullNumbers
-    go (accepted t) d = absurd (not-refused (countOfTable t) number place (answer _ (ample-on s cells marks cells-most marks-most t d .counts)))
-    go (refused k at) d = refuses fullNumbers k at (full-refusal s k at d) number place (answer _ (family-count-refused s cells marks k at d))
 
 -- the sheet's numbers and 17
 abbrev pub tableOrNumber : List ℕ

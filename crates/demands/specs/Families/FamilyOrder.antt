@@ -1,13 +1,13 @@
 -- Document 02, K3: "The order is by A's number, then A's tree, then B's." Defines the order of two trees by their shapes, without counts, and proves
 -- that the wirings of a group's numbers follow it. Marks are any list here.
 -- Assumes nothing.
-use Rattle.laws.specs.Prelude.{ℕ, _<_, _≤_, _+_, _-_, _^_, suc, _*_, zero, _%_, _/_, _≡_, _∙_, sym, ap, refl, subst, _⊎_, inl, inr, true, false, Bool}
-use Rattle.laws.specs.Prelude.{cond, List, [], _∷_, map, List·Memᴰ, List·Memᴰ·head, List·Memᴰ·tail, suc-mul, mul-le-mul, mod-lt, div-add-mod', le-refl}
-use Rattle.laws.specs.Prelude.{decLt, ℕ-discrete, arith}
-use Rattle.rules.specs.Lists.{range, those, total}
+use Rattle.laws.specs.Prelude.{ℕ, _<_, _≤_, _+_, _-_, _^_, suc, _*_, zero, _%_, _/_, _≡_, _∙_, sym, ap, refl, subst, _⊎_, inl, inr, true, false, Bool, cond}
+use Rattle.laws.specs.Prelude.{List, [], _∷_, map, List·Memᴰ, List·Memᴰ·head, List·Memᴰ·tail, suc-mul, mul-le-mul, mod-lt, div-add-mod', le-refl, decLt}
+use Rattle.laws.specs.Prelude.{ℕ-discrete, arith, by-cases}
 use Rattle.rules.specs.Groups.Groups.{size}
-use Rattle.rules.specs.Nets.Wirings.{Wiring, input, gate, groupOf}
+use Rattle.rules.specs.Lists.{range, those, total}
 use Rattle.rules.specs.Nets.Family.{splitsOf, Numbered, numberedAt}
+use Rattle.rules.specs.Nets.Wirings.{Wiring, input, gate, groupOf}
 use Rattle.laws.specs.Lists.Ranges.{range-mem}
 use Rattle.laws.specs.Lists.Finds.{those-mem}
 use Rattle.laws.specs.Lists.Totals.{those-cons, numbered-here, numbered-later}
@@ -48,12 +48,9 @@ module _ (count : ℕ → ℕ) where
   part-listed : (xs : List ℕ) (r : ℕ) → r < total (map count xs) → List·Memᴰ (numberedAt count xs r .part) xs
   unfolding total
   part-listed [] r h = absurd (omega arith)
-  part-listed (x ∷ xs) r h = go (decLt r (count x)) (part-listed xs (r - count x))
-    where
-      go : Dec (r < count x) → (r - count x < total (map count xs) → List·Memᴰ (numberedAt count xs (r - count x) .part) xs)
-          → List·Memᴰ (numberedAt count (x ∷ xs) r .part) (x ∷ xs)
-      go (yes here) later = rw (numbered-here count x xs r here) (List·Memᴰ·head refl)
-      go (no past) later = rw (numbered-later count x xs r (omega arith)) (List·Memᴰ·tail (later (omega arith)))
+  part-listed (x ∷ xs) r h = by-cases (decLt r (count x))
+      (λ here. rw (numbered-here count x xs r here) (List·Memᴰ·head refl))
+      (λ past. rw (numbered-later count x xs r (omega arith)) (List·Memᴰ·tail (part-listed xs (r - count x) (omega arith))))
 
   numbers-onward : (xs : List ℕ) → Rises xs → (r s : ℕ) → r < s → s < total (map count xs) → Onward (numberedAt count xs r) (numberedAt count xs s)
   unfolding total
@@ -146,12 +143,11 @@ module _ (n : ℕ) (marks : List ℕ) where
   -- a later number has a later tree
   pub in-order : (fuel : ℕ) → InOrder fuel
   in-order zero g r s g< enough h k = absurd (omega (arith, size-pos n g g< (counted-some n marks g g< (omega arith))))
-  in-order (suc fuel) g r s g< enough h k = go (ℕ-discrete (size n g) 1) (in-order fuel)
-    where
-      go : Dec (size n g ≡ 1) → InOrder fuel → Earlier (wired n marks (suc fuel) g r) (wired n marks (suc fuel) g s)
-      go (yes one) below = absurd (omega (arith, count-single n marks g g< (counted-two n marks g g< (omega arith)) one))
-      go (no several) below =
-          let counts = count-several n marks g g< (counted-two n marks g g< (omega arith)) several in
-          rw (wired-several n marks fuel g r several, wired-several n marks fuel g s several)
-          (any-split fuel g g< enough below r s _ _ (number-split n marks g r g< several (omega arith)) (number-split n marks g s g< several k)
-          (numbers-onward (splitCounted n marks g) (splitsOf n marks g) (splits-rise g) r s h (rw counts at k)))
+  in-order (suc fuel) g r s g< enough h k = elim (ℕ-discrete (size n g) 1) [
+    | yes one ↦ absurd (omega (arith, count-single n marks g g< (counted-two n marks g g< (omega arith)) one))
+    | no several ↦
+        let counts = count-several n marks g g< (counted-two n marks g g< (omega arith)) several in
+        rw (wired-several n marks fuel g r several, wired-several n marks fuel g s several)
+        (any-split fuel g g< enough (in-order fuel) r s _ _ (number-split n marks g r g< several (omega arith)) (number-split n marks g s g< several k)
+        (numbers-onward (splitCounted n marks g) (splitsOf n marks g) (splits-rise g) r s h (rw counts at k)))
+  ]

@@ -1,23 +1,23 @@
 -- Making and the two calls of a family first judge the same: the sheet, then room for the cells and for the marks. So either all three refuse in the
 -- same way and change no buffer, or each continues with the same table.
 -- Assumes nothing.
-use Rattle.laws.specs.Prelude.{ℕ, _<_, _≤_, _^_, _≡_, _∙_, ap, refl, List, [], _∷_, decLt, ℕ-discrete, arith, ltb, length}
-use Rattle.rules.specs.Lists.{all, any}
-use Rattle.rules.specs.Sheets.Sheets.{Table}
-use Rattle.rules.specs.Sheets.Printed.{printedNet}
-use Rattle.rules.specs.Groups.Marks.{marksLength, storedMarks}
-use Rattle.rules.specs.Calls.Answers.{Answer, accepted, refused, written}
-use Rattle.rules.specs.Calls.Settling.{Made, settledNet, writtenSheet, afterMarks, roomFor, makeCall}
+use Rattle.laws.specs.Prelude.{ℕ, _<_, _≤_, _^_, _≡_, _∙_, ap, refl, List, [], _∷_, decLt, ℕ-discrete, arith, ltb, length, answer-cases, by-cases}
+use Rattle.rules.specs.Calls.Answers.{accepted, refused, written}
 use Rattle.rules.specs.Calls.FamilyCalls.{countOfTable, familyNet, Counted, familyCountCall, afterCount, familyTreeCall}
+use Rattle.rules.specs.Calls.OpenCells.{readFull}
+use Rattle.rules.specs.Calls.Settling.{Made, settledNet, writtenSheet, afterMarks, roomFor, makeCall}
+use Rattle.rules.specs.Groups.Marks.{marksLength, storedMarks}
+use Rattle.rules.specs.Lists.{all, any}
+use Rattle.rules.specs.Sheets.Printed.{printedNet}
+use Rattle.rules.specs.Sheets.Sheets.{Table}
 use Rattle.laws.specs.Lists.Tests.{by-test}
-use Rattle.laws.specs.Lists.Distinct.{In, NotIn, not-in-cons, wider}
-use Rattle.laws.specs.Calls.Settling.{WholeTwo, marksOfTable, room-fits, into-refused, into-marked, marked-16, marked-tree, make-refused, make-accepted}
+use Rattle.laws.specs.Lists.Distinct.{In, not-in-cons, wider}
+use Rattle.laws.specs.Calls.Settling.{marksOfTable, room-fits, into-refused, into-marked, marked-16, marked-tree, make-refused, make-accepted}
 use Rattle.laws.specs.Calls.FamilyCalls.{counted-refused, counted-marked, count-17, count-tree, family-count-refused, family-count-accepted}
 use Rattle.laws.specs.Calls.FamilyCalls.{family-tree-refused, family-tree-accepted}
 use Rattle.demands.specs.Sheets.FullSheets.{fullNumbers, full-refusal}
 use Rattle.demands.specs.Numbers.Numbers.{not-given, refuses}
 use Rattle.demands.specs.Numbers.SettlingNumbers.{sheet-numbers, room-numbers}
-use Rattle.rules.specs.Calls.OpenCells.{readFull}
 
 -- equal results have equal answers
 pub made-answer : {made other : Made} → made ≡ other → made .answer ≡ other .answer
@@ -70,25 +70,21 @@ module _ (s cells marks : List ℕ) where
   -- for any sheet and any buffers
   pub judge : SheetJudged s cells marks
   unfolding any all
-  judge = sheet (readFull s) refl
-    where
-      room : (t : Table) → readFull s ≡ accepted t → (a : Answer (Unit {0})) → roomFor t cells marks ≡ a → SheetJudged s cells marks
-      room t e (refused number need) d = turned-back number need (record {
-        listed = room-numbers t cells marks judgedNumbers refl refl number need d;
-        counts = family-count-accepted s cells marks t e ∙ counted-refused t cells marks number need d;
-        numbers = λ r output. family-tree-accepted s r cells marks output t e ∙ into-refused t cells marks output _ number need d;
-        makes = λ output. make-accepted s cells marks output t e ∙ into-refused t cells marks output _ number need d;
-      })
-      room t e (accepted _) d = let fits = room-fits t cells marks d in goes-on t (on-with t e (fits .0) (fits .1))
-
-      sheet : (a : Answer Table) → readFull s ≡ a → SheetJudged s cells marks
-      sheet (refused number place) e = turned-back number place (record {
+  judge = answer-cases (readFull s)
+      (λ number place e. turned-back number place (record {
         listed = wider fullNumbers judgedNumbers refl number (full-refusal s number place e);
         counts = family-count-refused s cells marks number place e;
         numbers = λ r output. family-tree-refused s r cells marks output number place e;
         makes = λ output. make-refused s cells marks output number place e;
-      })
-      sheet (accepted t) e = room t e (roomFor t cells marks) refl
+      }))
+      (λ t e. answer-cases (roomFor t cells marks)
+      (λ number need d. turned-back number need (record {
+        listed = room-numbers t cells marks judgedNumbers refl refl number need d;
+        counts = family-count-accepted s cells marks t e ∙ counted-refused t cells marks number need d;
+        numbers = λ r output. family-tree-accepted s r cells marks output t e ∙ into-refused t cells marks output _ number need d;
+        makes = λ output. make-accepted s cells marks output t e ∙ into-refused t cells marks output _ number need d;
+      }))
+      (λ _ d. let fits = room-fits t cells marks d in goes-on t (on-with t e (fits .0) (fits .1))))
 
 -- ---- once the marks are written
 
@@ -111,28 +107,21 @@ module _ (t : Table) (cells marks output : List ℕ) where
 
   -- making leaves the inks and the marks, ..
   pub marked-leaves : Leaves inkCells allMarks (afterMarks settledNet t cells marks output)
-  marked-leaves = go (ℕ-discrete _ 2)
-    where
-      go : Dec (WholeTwo t) → Leaves inkCells allMarks (afterMarks settledNet t cells marks output)
-      go (yes two) = rw (marked-tree settledNet t cells marks output two) (sheet-leaves (printedNet (settledNet t)) inkCells allMarks output)
-      go (no none) = rw (marked-16 settledNet t cells marks output none) (record { cells = refl; marks = refl })
+  marked-leaves = by-cases (ℕ-discrete _ 2)
+      (λ two. rw (marked-tree settledNet t cells marks output two) (sheet-leaves (printedNet (settledNet t)) inkCells allMarks output))
+      (λ none. rw (marked-16 settledNet t cells marks output none) (record { cells = refl; marks = refl }))
 
   -- .. and refuses only with 16 or 15
   pub marked-numbers : (number place : ℕ) → (number ≡ 15 → ⊥) → (number ≡ 16 → ⊥)
       → afterMarks settledNet t cells marks output .answer ≡ refused number place → ⊥
   unfolding any
-  marked-numbers number place not-15 not-16 = go (ℕ-discrete _ 2)
-    where
-      not-listed : NotIn number (16 ∷ 15 ∷ [])
-      not-listed = not-in-cons number 16 (15 ∷ []) .1 (not-16, not-in-cons number 15 [] .1 (not-15, refl))
-
-      go : Dec (WholeTwo t) → afterMarks settledNet t cells marks output .answer ≡ refused number place → ⊥
-      go (yes two) =
-          rw (marked-tree settledNet t cells marks output two)
-          (not-given (16 ∷ 15 ∷ []) _ (sheet-numbers (16 ∷ 15 ∷ []) refl (printedNet (settledNet t)) inkCells allMarks output) number place not-listed)
-      go (no none) =
-          rw (marked-16 settledNet t cells marks output none)
-          (not-given {A = ℕ} (16 ∷ 15 ∷ []) _ (refuses (16 ∷ 15 ∷ []) 16 _ refl) number place not-listed)
+  marked-numbers number place not-15 not-16 =
+      let not-listed = not-in-cons number 16 (15 ∷ []) .1 (not-16, not-in-cons number 15 [] .1 (not-15, refl)) in
+      by-cases (ℕ-discrete _ 2)
+      (λ two. rw (marked-tree settledNet t cells marks output two)
+      (not-given (16 ∷ 15 ∷ []) _ (sheet-numbers (16 ∷ 15 ∷ []) refl (printedNet (settledNet t)) inkCells allMarks output) number place not-listed))
+      (λ none. rw (marked-16 settledNet t cells marks output none)
+      (not-given {A = ℕ} (16 ∷ 15 ∷ []) _ (refuses (16 ∷ 15 ∷ []) 16 _ refl) number place not-listed))
 
 -- ---- the call for a number, after everything judged before it
 
@@ -149,12 +138,11 @@ pub data NumberJudged (s : List ℕ) (r : ℕ) (cells marks output : List ℕ) :
       → NumberJudged s r cells marks output
 
 pub judge-number : (s : List ℕ) (r : ℕ) (cells marks output : List ℕ) → NumberJudged s r cells marks output
-judge-number s r cells marks output = go (judge s cells marks)
+judge-number s r cells marks output = elim (judge s cells marks) [
+  | turned-back number place is ↦ refuses-all number place is
+  | goes-on t is ↦ by t is (decLt r (countOfTable t))
+]
   where
     by : (t : Table) → GoesOn s cells marks t → Dec (r < countOfTable t) → NumberJudged s r cells marks output
     by t is (yes small) = has-tree t is small (is .numbers r output ∙ count-tree r t cells marks output small)
     by t is (no large) = no-number t is (omega arith) (is .numbers r output ∙ count-17 r t cells marks output (omega arith))
-
-    go : SheetJudged s cells marks → NumberJudged s r cells marks output
-    go (turned-back number place is) = refuses-all number place is
-    go (goes-on t is) = by t is (decLt r (countOfTable t))

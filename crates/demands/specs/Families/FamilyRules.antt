@@ -3,18 +3,19 @@
 -- Stated for what is written, without counts.
 -- Assumes nothing.
 use Rattle.laws.specs.Prelude.{ℕ, _<_, _^_, _≡_, _∙_, sym, ap, refl, subst, subst₂, true, false, List, arith}
-use Rattle.rules.specs.Sheets.Sheets.{Gate, Net, Table}
-use Rattle.rules.specs.Groups.Groups.{size}
-use Rattle.rules.specs.Nets.Wirings.{Wiring, input, gate, groupOf, linksOf}
-use Rattle.rules.specs.Nets.Filling.{filled}
-use Rattle.rules.specs.Nets.Family.{treeCount, familyGates}
 use Rattle.rules.specs.Calls.Answers.{accepted, inkIn}
-use Rattle.rules.specs.Sheets.Reading.{readNet}
 use Rattle.rules.specs.Calls.FamilyCalls.{countOfTable, familyNet, familyTreeCall}
+use Rattle.rules.specs.Calls.OpenCells.{readFull}
+use Rattle.rules.specs.Groups.Groups.{size}
+use Rattle.rules.specs.Nets.Family.{treeCount, familyGates}
+use Rattle.rules.specs.Nets.Filling.{filled}
+use Rattle.rules.specs.Nets.Trees.{wiringIn, UsesJust}
+use Rattle.rules.specs.Nets.Wirings.{Wiring, input, gate, groupOf, linksOf}
+use Rattle.rules.specs.Sheets.Reading.{readNet}
+use Rattle.rules.specs.Sheets.Sheets.{Gate, Net, Table}
 use Rattle.laws.specs.Calls.Answers.{accepted-inj}
 use Rattle.laws.specs.Calls.Settling.{marksOfTable}
 use Rattle.trees.specs.Trees.Trees.{WiringOf, fill}
-use Rattle.rules.specs.Nets.Trees.{wiringIn, UsesJust}
 use Rattle.trees.specs.Groups.Members.{size-single, size-le}
 use Rattle.trees.specs.Leaves.LeafGroup.{leaves-below, leaves-several}
 use Rattle.trees.specs.Trees.NetTables.{levels-pos, inputs-several}
@@ -28,7 +29,6 @@ use Rattle.demands.specs.Families.FamilyTables.{family-on-leaves}
 use Rattle.demands.specs.Families.FamilySheets.{tree-written, tree-sheet}
 use Rattle.demands.specs.Families.FamilyTreeClause.{lastTree}
 use Rattle.demands.specs.Families.FamilyOrder.{Earlier, in-order}
-use Rattle.rules.specs.Calls.OpenCells.{readFull}
 use Rattle.demands.specs.Sheets.FullSheets.{FullTableRules, full-accepted}
 
 -- filling the links of a wiring of two or more inputs gives that wiring back

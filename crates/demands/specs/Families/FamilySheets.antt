@@ -4,31 +4,31 @@
 -- number writes, and no other net is.
 -- Assumes nothing.
 use Rattle.laws.specs.Prelude.{ℕ, _<_, _≤_, _≡_, _∙_, sym, ap, subst, subst₂, List, ltb, length}
-use Rattle.rules.specs.Limits.{mostSettled}
-use Rattle.rules.specs.Sheets.Sheets.{Gate, Net, Table}
-use Rattle.rules.specs.Sheets.Printed.{firstLines, printedNet}
-use Rattle.rules.specs.Groups.Marks.{storedMarks}
-use Rattle.rules.specs.Nets.Family.{SameWiring}
-use Rattle.rules.specs.Sheets.SheetRules.{IsNet}
 use Rattle.rules.specs.Calls.Answers.{accepted, inkIn, written}
-use Rattle.rules.specs.Sheets.Reading.{readNet, tableOfNet}
-use Rattle.rules.specs.Calls.Settling.{writtenSheet}
 use Rattle.rules.specs.Calls.FamilyCalls.{countOfTable, familyNet, familyTreeCall}
+use Rattle.rules.specs.Calls.OpenCells.{readFull}
+use Rattle.rules.specs.Calls.Settling.{writtenSheet}
+use Rattle.rules.specs.Groups.Marks.{storedMarks}
+use Rattle.rules.specs.Limits.{mostSettled}
+use Rattle.rules.specs.Nets.Family.{SameWiring}
+use Rattle.rules.specs.Nets.Trees.{Computes, UsesJust}
+use Rattle.rules.specs.Sheets.Printed.{firstLines, printedNet}
+use Rattle.rules.specs.Sheets.Reading.{readNet, tableOfNet}
+use Rattle.rules.specs.Sheets.SheetRules.{IsNet}
+use Rattle.rules.specs.Sheets.Sheets.{Gate, Net, Table}
 use Rattle.laws.specs.Calls.Answers.{accepted-inj, not-refused, written-front}
 use Rattle.laws.specs.Calls.Settling.{marksOfTable, sheet-written}
 use Rattle.laws.specs.Lists.Tests.{by-test}
 use Rattle.laws.specs.Calls.FamilyCalls.{count-tree}
 use Rattle.readback.specs.Sheets.ReadBack.{net-accepted, net-read-back}
 use Rattle.readback.specs.Sheets.Length.{net-length}
-use Rattle.rules.specs.Nets.Trees.{Computes, UsesJust}
 use Rattle.trees.specs.Trees.Uniqueness.{table-at}
 use Rattle.demands.specs.Sheets.FirstLines.{threeLines, three-lines}
 use Rattle.demands.specs.Settling.Settles.{sheetIn, sheetOf, Long}
 use Rattle.demands.specs.Settling.Makes.{leavesOfTable}
-use Rattle.demands.specs.Families.FamilyOutcomes.{on-with, NumberJudged, refuses-all, no-number, has-tree, judge-number}
+use Rattle.demands.specs.Families.FamilyOutcomes.{on-with, refuses-all, no-number, has-tree, judge-number}
 use Rattle.demands.specs.Families.FamilyTables.{family-kept, family-has-table, family-on-leaves, numbers-long, family-as-long, numbers-apart}
 use Rattle.demands.specs.Families.FamilyTables.{number-of, numbers-on-leaves}
-use Rattle.rules.specs.Calls.OpenCells.{readFull}
 use Rattle.demands.specs.Sheets.FullSheets.{FullTableRules, full-accepted}
 
 -- the written sheet is the intended one
@@ -86,14 +86,13 @@ module _ (s : List ℕ) (t : Table) (reads : readFull s ≡ accepted t) where
   pub tree-written : (r : ℕ) (cells marks output sheet : List ℕ) → sheetOf (familyTreeCall s r cells marks output) ≡ accepted sheet
       → (r < countOfTable t) × (printedNet (familyNet r t) ≡ sheet)
   unfolding sheetIn
-  tree-written r cells marks output sheet e = go (judge-number s r cells marks output)
-    where
-      go : NumberJudged s r cells marks output → (r < countOfTable t) × (printedNet (familyNet r t) ≡ sheet)
-      go (refuses-all number place is) = absurd (not-refused sheet number place (sym e ∙ ap sheetOf (is .numbers r output)))
-      go (no-number u is large d) = absurd (not-refused sheet 17 r (sym e ∙ ap sheetOf d))
-      go (has-tree u is small d) =
-          subst (λ (t : Table). (r < countOfTable t) × (printedNet (familyNet r t) ≡ sheet)) (accepted-inj u t (sym (is .reads) ∙ reads))
-          (small, front-written (printedNet (familyNet r u)) _ _ output sheet (sym (ap sheetOf d) ∙ e))
+  tree-written r cells marks output sheet e = elim (judge-number s r cells marks output) [
+    | refuses-all number place is ↦ absurd (not-refused sheet number place (sym e ∙ ap sheetOf (is .numbers r output)))
+    | no-number u is large d ↦ absurd (not-refused sheet 17 r (sym e ∙ ap sheetOf d))
+    | has-tree u is small d ↦
+        subst (λ (t : Table). (r < countOfTable t) × (printedNet (familyNet r t) ≡ sheet)) (accepted-inj u t (sym (is .reads) ∙ reads))
+        (small, front-written (printedNet (familyNet r u)) _ _ output sheet (sym (ap sheetOf d) ∙ e))
+  ]
 
   -- and so it is accepted, as a net with exactly the table
   pub tree-sheet : (r : ℕ) (cells marks output sheet : List ℕ) → sheetOf (familyTreeCall s r cells marks output) ≡ accepted sheet

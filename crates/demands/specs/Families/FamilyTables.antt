@@ -2,23 +2,22 @@
 -- table and is on just the table's leaves, its sheet is as long as the settled net's, and number 0 is the settled net. There is a number exactly if
 -- the whole group has mark 2.
 -- Assumes nothing.
-use Rattle.laws.specs.Prelude.{ℕ, _<_, _≤_, _+_, _^_, suc, zero, _≡_, _∙_, ap, refl, subst⁻¹, _↔_, by-cases, List, mul-le-mul-right, le-trans, le-refl}
-use Rattle.laws.specs.Prelude.{decLe, arith, length}
-use Rattle.rules.specs.Sheets.Sheets.{Gate, Net, Table}
-use Rattle.rules.specs.Sheets.Printed.{printedNet}
+use Rattle.laws.specs.Prelude.{ℕ, _<_, _≤_, _+_, _^_, suc, zero, _≡_, _∙_, ap, refl, _↔_, by-cases, List, mul-le-mul-right, le-trans, le-refl, decLe, arith}
+use Rattle.laws.specs.Prelude.{length}
+use Rattle.rules.specs.Calls.Answers.{inkIn}
+use Rattle.rules.specs.Calls.FamilyCalls.{countOfTable, familyNet}
+use Rattle.rules.specs.Calls.Settling.{settledNet}
 use Rattle.rules.specs.Groups.Groups.{size}
 use Rattle.rules.specs.Nets.Family.{treeCount, SameWiring}
-use Rattle.rules.specs.Sheets.SheetRules.{IsNet, NetRules}
-use Rattle.rules.specs.Calls.Answers.{inkIn}
+use Rattle.rules.specs.Nets.Trees.{Computes, UsesJust}
+use Rattle.rules.specs.Sheets.Printed.{printedNet}
 use Rattle.rules.specs.Sheets.Reading.{tableOfNet}
-use Rattle.rules.specs.Calls.Settling.{settledNet}
-use Rattle.rules.specs.Calls.FamilyCalls.{countOfTable, familyNet}
+use Rattle.rules.specs.Sheets.SheetRules.{IsNet, NetRules}
+use Rattle.rules.specs.Sheets.Sheets.{Gate, Net, Table}
 use Rattle.laws.specs.Numbers.Sizes.{kept-size}
 use Rattle.laws.specs.Calls.Settling.{WholeTwo, marksOfTable}
-use Rattle.rules.specs.Nets.Trees.{Computes, UsesJust}
 use Rattle.trees.specs.Groups.Members.{size-le}
 use Rattle.trees.specs.Trees.Uniqueness.{table-is}
-use Rattle.trees.specs.Trees.NetTables.{levels-pos, inputs-several}
 use Rattle.trees.specs.Trees.UsedOnce.{same-inputs}
 use Rattle.trees.specs.Leaves.LeafGroup.{leaves-below}
 use Rattle.trees.specs.Leaves.CutWirings.{leaves-marked}
@@ -28,7 +27,7 @@ use Rattle.trees.specs.Families.FamilyWirings.{two-counted}
 use Rattle.trees.specs.Families.FamilyBounds.{treesOn, count-bound, group-trees-fit}
 use Rattle.trees.specs.Families.FamilyNets.{family-computes, family-leaves, family-differ, every-wiring, only-leaves, family-settled, no-family}
 use Rattle.demands.specs.Settling.Makes.{leavesOfTable, HasTree}
-use Rattle.demands.specs.Sheets.FullSheets.{FullTableRules}
+use Rattle.demands.specs.Sheets.FullSheets.{FullTableRules, FullFacts, full-facts}
 
 -- more inputs have no fewer trees
 trees-suc : (k : ℕ) → treesOn k ≤ treesOn (suc k)
@@ -42,14 +41,7 @@ trees-more j (suc k) h =
     by-cases (decLe j k) (λ before. le-trans (trees-more j k before) (trees-suc k)) (λ last. let z : j ≡ suc k = omega arith in rw z (le-refl _))
 
 module _ (t : Table) (kept : FullTableRules t) where
-  pos : 0 < t .header .levels
-  pos = levels-pos (t .header .levels) (kept .header .levels)
-
-  several : 1 < t .header .inputs
-  several = inputs-several (t .header .inputs) (kept .header .inputs)
-
-  inks-below : (p : ℕ) → p < t .header .levels ^ t .header .inputs → inkIn (t .inks) p < t .header .levels
-  inks-below p h = kept .below p (subst⁻¹ (λ (k : ℕ). p < k) (kept .count) h)
+  open FullFacts (full-facts t kept) using (pos, several, inks-below)
 
   leaves< : leavesOfTable t < 2 ^ t .header .inputs
   leaves< = leaves-below (t .header .levels) (t .header .inputs) pos (inkIn (t .inks))

@@ -3,16 +3,17 @@
 -- digits, differs only in which side is left from the tree that the call for exactly one number writes; no tree on other leaves does.
 -- Assumes nothing.
 use Rattle.laws.specs.Prelude.{ℕ, _+_, _-_, _≡_, _∙_, sym, ap, subst, _↔_, List, arith, length}
-use Rattle.rules.specs.Sheets.Sheets.{Gate, Net, Table}
+use Rattle.rules.specs.Calls.Answers.{accepted, inkIn}
+use Rattle.rules.specs.Calls.FamilyCalls.{familyNet, familyTreeCall}
+use Rattle.rules.specs.Calls.OpenCells.{readFull}
+use Rattle.rules.specs.Nets.Family.{SameWiring}
+use Rattle.rules.specs.Nets.Trees.{Tree, leaf, node, wiringIn, treeValue, Turned, UsesJust, GateTree}
 use Rattle.rules.specs.Nets.Value.{value}
 use Rattle.rules.specs.Nets.Wirings.{groupOf, gatesIn}
-use Rattle.rules.specs.Nets.Family.{SameWiring}
-use Rattle.rules.specs.Sheets.SheetRules.{IsNet}
-use Rattle.rules.specs.Calls.Answers.{accepted, inkIn}
 use Rattle.rules.specs.Sheets.Reading.{readNet}
-use Rattle.rules.specs.Calls.FamilyCalls.{familyNet, familyTreeCall}
+use Rattle.rules.specs.Sheets.SheetRules.{IsNet}
+use Rattle.rules.specs.Sheets.Sheets.{Gate, Net, Table}
 use Rattle.laws.specs.Calls.Answers.{accepted-inj}
-use Rattle.rules.specs.Nets.Trees.{Tree, leaf, node, wiringIn, treeValue, Turned, UsesJust, GateTree}
 use Rattle.trees.specs.Trees.Forest.{treeAt, withTrees, inputTrees}
 use Rattle.trees.specs.Trees.NetTree.{net-tree, net-group}
 use Rattle.trees.specs.Trees.NetTables.{levels-pos}
@@ -26,7 +27,6 @@ use Rattle.demands.specs.Settling.Makes.{leavesOfTable}
 use Rattle.demands.specs.Settling.TreeClause.{TreeFor, TreeAgrees, agrees-all}
 use Rattle.demands.specs.Families.FamilyTables.{family-kept, family-on-leaves}
 use Rattle.demands.specs.Families.FamilySheets.{OneWiring, tree-written, tree-sheet, one-wiring, UnderOneNumber, every-gates}
-use Rattle.rules.specs.Calls.OpenCells.{readFull}
 use Rattle.demands.specs.Sheets.FullSheets.{FullTableRules, full-accepted}
 
 -- the tree of a gate list: that of its last gate

@@ -3,13 +3,13 @@
 -- leaves." For every other number the call has the same result as making, except for the sheet; for number 0 exactly the same result.
 -- Assumes nothing.
 use Rattle.laws.specs.Prelude.{ℕ, _≤_, _≡_, _∙_, sym, ap, refl, _↔_, List, [], _∷_, arith}
-use Rattle.rules.specs.Lists.{any}
-use Rattle.rules.specs.Sheets.Sheets.{Net, Table}
-use Rattle.rules.specs.Sheets.Printed.{printedNet}
-use Rattle.rules.specs.Groups.Marks.{storedMarks}
 use Rattle.rules.specs.Calls.Answers.{Answer, accepted, refused, written}
-use Rattle.rules.specs.Calls.Settling.{settledNet, writtenSheet, makeCall}
 use Rattle.rules.specs.Calls.FamilyCalls.{countOfTable, familyNet, familyCountCall, familyTreeCall}
+use Rattle.rules.specs.Calls.Settling.{settledNet, writtenSheet, makeCall}
+use Rattle.rules.specs.Groups.Marks.{storedMarks}
+use Rattle.rules.specs.Lists.{any}
+use Rattle.rules.specs.Sheets.Printed.{printedNet}
+use Rattle.rules.specs.Sheets.Sheets.{Net, Table}
 use Rattle.laws.specs.Calls.Answers.{accepted-inj, not-refused}
 use Rattle.laws.specs.Lists.Distinct.{NotIn}
 use Rattle.laws.specs.Calls.Settling.{marksOfTable, marked-16, marked-tree}
@@ -40,35 +40,29 @@ module _ (s cells marks output : List ℕ) where
     -- the cells and the marks end as making leaves them
     pub tree-leaves : (familyTreeCall s r cells marks output .cells ≡ makeCall s cells marks output .cells)
         × (familyTreeCall s r cells marks output .marks ≡ makeCall s cells marks output .marks)
-    tree-leaves = go (judge-number s r cells marks output)
-      where
-        go : NumberJudged s r cells marks output
-            → (familyTreeCall s r cells marks output .cells ≡ makeCall s cells marks output .cells)
-            × (familyTreeCall s r cells marks output .marks ≡ makeCall s cells marks output .marks)
-        go (refuses-all number place is) = rw (is .numbers r output, is .makes output) (refl, refl)
-        go (no-number t is large e) =
-            let made = marked-leaves t cells marks output in
-            rw (e, is .makes output) (sym (made .cells), sym (made .marks))
-        go (has-tree t is small e) =
-            let made = marked-leaves t cells marks output in
-            let left = sheet-leaves (printedNet (familyNet r t)) (written cells (t .inks)) (written marks (storedMarks (marksOfTable t))) output in
-            rw (e, is .makes output) (left .cells ∙ sym (made .cells), left .marks ∙ sym (made .marks))
+    tree-leaves = elim (judge-number s r cells marks output) [
+      | refuses-all number place is ↦ rw (is .numbers r output, is .makes output) (refl, refl)
+      | no-number t is large e ↦
+          let made = marked-leaves t cells marks output in
+          rw (e, is .makes output) (sym (made .cells), sym (made .marks))
+      | has-tree t is small e ↦
+          let made = marked-leaves t cells marks output in
+          let left = sheet-leaves (printedNet (familyNet r t)) (written cells (t .inks)) (written marks (storedMarks (marksOfTable t))) output in
+          rw (e, is .makes output) (left .cells ∙ sym (made .cells), left .marks ∙ sym (made .marks))
+    ]
 
     -- "17, order number not below the count, place the number": and it "leaves what 16 leaves", the cells and the marks that the count call and
     -- making leave (`count-leaves`) and the output unchanged
     pub past-count : (count : ℕ) → familyCountCall s cells marks .answer ≡ accepted count → count ≤ r
         → familyTreeCall s r cells marks output
         ≡ record { answer = refused 17 r; cells = familyCountCall s cells marks .cells; marks = familyCountCall s cells marks .marks; output = output }
-    past-count count d h = go (judge-number s r cells marks output)
-      where
-        go : NumberJudged s r cells marks output
-            → familyTreeCall s r cells marks output
-            ≡ record { answer = refused 17 r; cells = familyCountCall s cells marks .cells; marks = familyCountCall s cells marks .marks; output = output }
-        go (refuses-all k at is) = absurd (not-refused count k at (sym d ∙ counted-answer (is .counts)))
-        go (no-number t is large e) = rw (is .counts) e
-        go (has-tree t is small e) =
-            let same = accepted-inj (countOfTable t) count (sym (counted-answer (is .counts)) ∙ d) in
-            absurd (omega arith)
+    past-count count d h = elim (judge-number s r cells marks output) [
+      | refuses-all k at is ↦ absurd (not-refused count k at (sym d ∙ counted-answer (is .counts)))
+      | no-number t is large e ↦ rw (is .counts) e
+      | has-tree t is small e ↦
+          let same = accepted-inj (countOfTable t) count (sym (counted-answer (is .counts)) ∙ d) in
+          absurd (omega arith)
+    ]
 
     -- it refuses with 17 only then: judged after 14, since the count call accepts, and before 15, since the output does not matter
     pub refuses-17 : (place : ℕ)
@@ -97,48 +91,37 @@ module _ (s cells marks output : List ℕ) where
           output = makeCall s cells marks output .output;
         }
     unfolding any
-    in-place-of-16 place d = go (judge-number s r cells marks output)
+    in-place-of-16 place d = elim (judge-number s r cells marks output) [
+      | refuses-all k at is ↦ absurd (not-judged s cells marks k at is 16 place refl (sym (made-answer (is .makes output)) ∙ d))
+      | no-number t is large e ↦ rw (is .makes output, marked-16 settledNet t cells marks output (λ two. no-tree t is (two-tree t (kept-on t is) .1 two))) e
+      | has-tree t is small e ↦ absurd (omega (arith, none-counted t (kept-on t is) .1 (no-tree t is)))
+    ]
       where
         no-tree : (t : Table) → GoesOn s cells marks t → HasTree t → ⊥
         no-tree t is = make-refuses s t (is .reads) cells marks output (is .cells-fit) (is .marks-fit) .0 (place, d)
 
-        go : NumberJudged s r cells marks output
-            → familyTreeCall s r cells marks output
-            ≡ record {
-              answer = refused 17 r;
-              cells = makeCall s cells marks output .cells;
-              marks = makeCall s cells marks output .marks;
-              output = makeCall s cells marks output .output;
-            }
-        go (refuses-all k at is) = absurd (not-judged s cells marks k at is 16 place refl (sym (made-answer (is .makes output)) ∙ d))
-        go (no-number t is large e) =
-            rw (is .makes output, marked-16 settledNet t cells marks output (λ two. no-tree t is (two-tree t (kept-on t is) .1 two))) e
-        go (has-tree t is small e) = absurd (omega (arith, none-counted t (kept-on t is) .1 (no-tree t is)))
-
     -- If it does not refuse with 17, it has the same result as making, except for the sheet: 15 too, with the same place.
     pub tree-but-sheet : ((place : ℕ) → familyTreeCall s r cells marks output .answer ≡ refused 17 place → ⊥)
         → ButSheet (familyTreeCall s r cells marks output) (makeCall s cells marks output)
-    tree-but-sheet not-17 = go (judge-number s r cells marks output)
-      where
-        go : NumberJudged s r cells marks output → ButSheet (familyTreeCall s r cells marks output) (makeCall s cells marks output)
-        go (refuses-all k at is) = rw (is .numbers r output, is .makes output) (but-none _)
-        go (no-number t is large e) = absurd (not-17 r (made-answer e))
-        go (has-tree t is small e) =
-            rw (e, is .makes output ∙ marked-tree settledNet t cells marks output (some-two t (kept-on t is) (omega arith)))
-            (sheets-but (printedNet (familyNet r t)) (printedNet (settledNet t)) _ _ output (family-as-long t (kept-on t is) r small))
+    tree-but-sheet not-17 = elim (judge-number s r cells marks output) [
+      | refuses-all k at is ↦ rw (is .numbers r output, is .makes output) (but-none _)
+      | no-number t is large e ↦ absurd (not-17 r (made-answer e))
+      | has-tree t is small e ↦
+          rw (e, is .makes output ∙ marked-tree settledNet t cells marks output (some-two t (kept-on t is) (omega arith)))
+          (sheets-but (printedNet (familyNet r t)) (printedNet (settledNet t)) _ _ output (family-as-long t (kept-on t is) r small))
+    ]
 
   -- "number 0 is the settled net": if making does not refuse with 16, the call for number 0 has exactly the same result as making
   pub first-as-making : ((place : ℕ) → makeCall s cells marks output .answer ≡ refused 16 place → ⊥)
       → familyTreeCall s 0 cells marks output ≡ makeCall s cells marks output
-  first-as-making not-16 = go (judge-number s 0 cells marks output)
-    where
-      go : NumberJudged s 0 cells marks output → familyTreeCall s 0 cells marks output ≡ makeCall s cells marks output
-      go (refuses-all k at is) = is .numbers 0 output ∙ sym (is .makes output)
-      go (no-number t is large e) =
-          absurd (not-16 _ (made-answer
-          (is .makes output ∙ marked-16 settledNet t cells marks output (λ two. omega (arith, tree-counted t (kept-on t is) two)))))
-      go (has-tree t is small e) =
-          e
-          ∙ ap (λ (net : Net). writtenSheet (printedNet net) (written cells (t .inks)) (written marks (storedMarks (marksOfTable t))) output)
-          (first-settled t (kept-on t is) small)
-          ∙ sym (is .makes output ∙ marked-tree settledNet t cells marks output (some-two t (kept-on t is) small))
+  first-as-making not-16 = elim (judge-number s 0 cells marks output) [
+    | refuses-all k at is ↦ is .numbers 0 output ∙ sym (is .makes output)
+    | no-number t is large e ↦
+        absurd (not-16 _ (made-answer
+        (is .makes output ∙ marked-16 settledNet t cells marks output (λ two. omega (arith, tree-counted t (kept-on t is) two)))))
+    | has-tree t is small e ↦
+        e
+        ∙ ap (λ (net : Net). writtenSheet (printedNet net) (written cells (t .inks)) (written marks (storedMarks (marksOfTable t))) output)
+        (first-settled t (kept-on t is) small)
+        ∙ sym (is .makes output ∙ marked-tree settledNet t cells marks output (some-two t (kept-on t is) small))
+  ]

@@ -1,12 +1,12 @@
 -- The job after any list of steps and questions: its table is unchanged, each step passes one group until all are passed, and the marks
 -- of the groups passed are document 01's, every other mark 0.
 -- Assumes nothing.
-use Rattle.laws.specs.Prelude.{ℕ, _<_, _≤_, _+_, _-_, _^_, suc, _≡_, _∙_, sym, ap, refl, List, [], _∷_, lt-of-not-le, ℕ-discrete, decLe, arith, length}
-use Rattle.laws.specs.Prelude.{set, length-set, replicate, length-replicate, getD-replicate, List·getD-eq-default, getD-set-same, getD-set-other, ext-getD}
-use Rattle.laws.specs.Prelude.{pow-pos}
-use Rattle.rules.specs.Sheets.Sheets.{Table}
-use Rattle.rules.specs.Groups.Marks.{markIn, markOf, marksOf}
+use Rattle.laws.specs.Prelude.{ℕ, _<_, _≤_, _+_, _^_, suc, _≡_, _∙_, sym, ap, refl, List, [], _∷_, lt-of-not-le, ℕ-discrete, decLe, arith, length, set}
+use Rattle.laws.specs.Prelude.{length-set, replicate, length-replicate, getD-replicate, List·getD-eq-default, getD-set-same, getD-set-other, ext-getD}
+use Rattle.laws.specs.Prelude.{pow-pos, by-cases}
 use Rattle.rules.specs.Calls.Answers.{inkIn}
+use Rattle.rules.specs.Groups.Marks.{markIn, markOf, marksOf}
+use Rattle.rules.specs.Sheets.Sheets.{Header, Table}
 use Rattle.rules.specs.Calls.Jobs.{Job, newJob, groupsOf, further, Stepped, stepJob, askJob, Move, step, ask, moved, afterMoves}
 use Rattle.laws.specs.Calls.Jobs.{step-done, step-on}
 use Rattle.laws.specs.Calls.Settling.{marksOfTable}
@@ -82,11 +82,7 @@ pub record Along (job : Job) : Type 0 where
   pub ahead : (g : ℕ) → job .passed < g → markIn (job .marks) g ≡ 0
 
 module _ (t : Table) (pos : 0 < t .header .levels) where
-  abbrev m : ℕ
-  m = t .header .levels
-
-  abbrev n : ℕ
-  n = t .header .inputs
+  open Header (t .header) using (levels as m, inputs as n)
 
   abbrev ink : ℕ → ℕ
   ink = inkIn (t .inks)
@@ -97,31 +93,27 @@ module _ (t : Table) (pos : 0 < t .header .levels) where
   empty-mark = mark-rule m n pos ink 0 (pow-pos n)
 
   none-marked : (k g : ℕ) → markIn (replicate k 0) g ≡ 0
-  none-marked k g = go (decLe k g)
-    where
-      go : Dec (k ≤ g) → markIn (replicate k 0) g ≡ 0
-      go (yes h) = List·getD-eq-default (replicate k 0) 0 (omega (arith, length-replicate {A = ℕ} k 0))
-      go (no h) = getD-replicate k g 0 0 (lt-of-not-le h)
+  none-marked k g = by-cases (decLe k g)
+      (λ h. List·getD-eq-default (replicate k 0) 0 (omega (arith, length-replicate {A = ℕ} k 0)))
+      (λ h. getD-replicate k g 0 0 (lt-of-not-le h))
 
   new-along : Along (newJob t)
   unfolding newJob
-  new-along =
-      record {
-        low = pow-pos n;
-        count = length-replicate (2 ^ n) 0;
-        passed = λ g h. none-marked (2 ^ n) g ∙ sym empty-mark ∙ ap (markIn (marksOf m n ink)) (omega arith);
-        ahead = λ g h. none-marked (2 ^ n) g;
-      }
+  new-along = record {
+    low = pow-pos n;
+    count = length-replicate (2 ^ n) 0;
+    passed = λ g h. none-marked (2 ^ n) g ∙ sym empty-mark ∙ ap (markIn (marksOf m n ink)) (omega arith);
+    ahead = λ g h. none-marked (2 ^ n) g;
+  }
 
 pub further-along : (job : Job) → 0 < job .table .header .levels → Along job → job .passed < groupsOf job → Along (further job)
 unfolding further groupsOf
-further-along job pos along on =
-    record {
-      low = omega (arith, along .low);
-      count = length-set (job .marks) g v ∙ along .count;
-      passed = λ a h. own a (ℕ-discrete a g) h;
-      ahead = λ a h. getD-set-other (job .marks) g a v 0 (λ e. omega arith) ∙ along .ahead a (omega arith);
-    }
+further-along job pos along on = record {
+  low = omega (arith, along .low);
+  count = length-set (job .marks) g v ∙ along .count;
+  passed = λ a h. own a (ℕ-discrete a g) h;
+  ahead = λ a h. getD-set-other (job .marks) g a v 0 (λ e. omega arith) ∙ along .ahead a (omega arith);
+}
   where
     m : ℕ
     m = job .table .header .levels

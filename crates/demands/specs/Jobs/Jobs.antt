@@ -3,11 +3,12 @@
 -- Assumes nothing.
 use Rattle.laws.specs.Prelude.{ℕ, _<_, _≤_, _+_, _-_, _^_, _≡_, _∙_, sym, ap, refl, subst, _↔_, List, [], _∷_, zero-add, lt-of-not-le, ℕ-discrete, decLe}
 use Rattle.laws.specs.Prelude.{arith, length, replicate}
+use Rattle.rules.specs.Calls.Answers.{accepted, refused}
+use Rattle.rules.specs.Calls.OpenCells.{fullCells, readFull}
+use Rattle.rules.specs.Calls.Settling.{madeInto, settledNet, makeCall}
+use Rattle.rules.specs.Groups.Marks.{markIn}
 use Rattle.rules.specs.Limits.{levelsFit, sizeFits}
 use Rattle.rules.specs.Sheets.Sheets.{Table}
-use Rattle.rules.specs.Groups.Marks.{markIn}
-use Rattle.rules.specs.Calls.Answers.{accepted, refused}
-use Rattle.rules.specs.Calls.Settling.{madeInto, settledNet, makeCall}
 use Rattle.rules.specs.Calls.Jobs.{Job, noTable, newJob, emptyJob, groupsOf, Opened, openJob, Stepped, stepJob, further, askJob, final, notReached}
 use Rattle.rules.specs.Calls.Jobs.{finishJob, Move, step, ask, moved, afterMoves}
 use Rattle.laws.specs.Calls.Jobs.{open-refused, open-accepted, step-done, step-on, ask-empty, ask-over, ask-passed, ask-ahead, may-refused, may-22}
@@ -17,7 +18,6 @@ use Rattle.laws.specs.Calls.OpenCells.{cells-kept, cells-refused}
 use Rattle.laws.specs.Calls.Settling.{marksOfTable, make-accepted}
 use Rattle.trees.specs.Trees.NetTables.{levels-pos}
 use Rattle.demands.specs.Jobs.JobMoves.{stepsIn, Done, moves-table, moves-passed, moves-all, moves-steps, Along, moves-along, all-marked}
-use Rattle.rules.specs.Calls.OpenCells.{fullCells, readFull}
 use Rattle.demands.specs.Sheets.FullSheets.{full-accepted, full-keeps}
 
 -- ---- a job on an accepted sheet of a full table, after any list of steps and questions
@@ -203,13 +203,12 @@ empty-moves (step ∷ moves) = ap (λ (s : Stepped). afterMoves moves (s .job)) 
 
 pub empty-job : Empty
 unfolding emptyJob newJob noTable groupsOf
-empty-job =
-    record {
-      no-inputs = refl;
-      no-groups = refl;
-      done = omega arith;
-      stepping = empty-step;
-      asking = λ g. empty-ask g (ℕ-discrete g 0);
-      finishing = λ cells marks output. finish-refused emptyJob cells marks output 9 0 (may-refused emptyJob 9 0 empty-size);
-      moving = empty-moves;
-    }
+empty-job = record {
+  no-inputs = refl;
+  no-groups = refl;
+  done = omega arith;
+  stepping = empty-step;
+  asking = λ g. empty-ask g (ℕ-discrete g 0);
+  finishing = λ cells marks output. finish-refused emptyJob cells marks output 9 0 (may-refused emptyJob 9 0 empty-size);
+  moving = empty-moves;
+}

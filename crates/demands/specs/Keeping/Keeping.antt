@@ -3,23 +3,23 @@
 -- the sheet written is an accepted net with the given wiring and exactly the table, and the set is exactly the gates that changed. Keeping again
 -- changes nothing; keeping the wiring of the settled net gives making's sheet; keeping leaves every sheet of a family as it is.
 -- Assumes nothing.
-use Rattle.laws.specs.Prelude.{ℕ, _<_, _≤_, _-_, _^_, suc, _≡_, _∙_, sym, ap, refl, subst, ap₂, subst⁻¹, _↔_, _≢_, ⊎-elim, _⊎_, inl, inr, true, false}
-use Rattle.laws.specs.Prelude.{Bool, true≢false, List, lt-of-not-le, decLe, arith, length, getD, take}
-use Rattle.rules.specs.Limits.{mostSettled}
-use Rattle.rules.specs.Sheets.Sheets.{Gate, Net, Table}
-use Rattle.rules.specs.Sheets.Printed.{printedNet}
-use Rattle.rules.specs.Groups.Groups.{member, multiplicity}
-use Rattle.rules.specs.Nets.Family.{gateGroups}
-use Rattle.rules.specs.Nets.Filling.{filled}
-use Rattle.rules.specs.Sheets.SheetRules.{NetRules}
-use Rattle.rules.specs.Calls.Answers.{Answer, accepted, refused, Named, netNamed, tableNamed, neither, inkIn, written}
-use Rattle.rules.specs.Sheets.Reading.{readNet, readTable, tableOfNet}
-use Rattle.rules.specs.Calls.OpenCells.{fullTable, readFull}
+use Rattle.laws.specs.Prelude.{ℕ, _<_, _≤_, _-_, _^_, suc, _≡_, _∙_, sym, ap, refl, subst, ap₂, subst⁻¹, _↔_, _≢_, ⊎-elim, _⊎_, inl, inr, true, false, Bool}
+use Rattle.laws.specs.Prelude.{true≢false, List, lt-of-not-le, decLe, arith, length, getD, take, answer-cases, by-cases, test-cases}
+use Rattle.rules.specs.Calls.Answers.{accepted, Named, netNamed, tableNamed, neither, inkIn, written}
 use Rattle.rules.specs.Calls.Checking.{sameHeader}
-use Rattle.rules.specs.Calls.Settling.{settledNet, makeCall}
 use Rattle.rules.specs.Calls.FamilyCalls.{familyNet, familyTreeCall}
 use Rattle.rules.specs.Calls.Keeping.{gateLinks, keptGates, keptNet, roomyBefore, leavesOut, tableAt, changedGates, Keeping, rewritten, turnedAway}
 use Rattle.rules.specs.Calls.Keeping.{KeptWiring, keptInto, keepCall}
+use Rattle.rules.specs.Calls.OpenCells.{fullTable, readFull}
+use Rattle.rules.specs.Calls.Settling.{settledNet, makeCall}
+use Rattle.rules.specs.Groups.Groups.{member, multiplicity}
+use Rattle.rules.specs.Limits.{mostSettled}
+use Rattle.rules.specs.Nets.Family.{gateGroups}
+use Rattle.rules.specs.Nets.Filling.{filled}
+use Rattle.rules.specs.Sheets.Printed.{printedNet}
+use Rattle.rules.specs.Sheets.Reading.{readNet, readTable, tableOfNet}
+use Rattle.rules.specs.Sheets.SheetRules.{NetRules}
+use Rattle.rules.specs.Sheets.Sheets.{Gate, Net, Table}
 use Rattle.laws.specs.Calls.Answers.{written-front}
 use Rattle.laws.specs.Calls.Keeping.{keep-net-refused, keep-table-refused, keep-accepted, keep-12, keep-27, keep-13, keep-23-0, keep-23, keep-15, keep-written}
 use Rattle.laws.specs.Calls.OpenCells.{read-full, read-accepted}
@@ -69,11 +69,7 @@ pub record Past (s r cells : List ℕ) : Type 0 where
   pub long : table .header .levels ^ table .header .inputs ≤ length cells
 
 module _ (s r cells : List ℕ) (past : Past s r cells) where
-  abbrev net : Net
-  net = past .net
-
-  abbrev t : Table
-  t = past .table
+  open Past past using (net, table as t)
 
   kept-net : NetRules net
   kept-net = net-accepted s net (past .reads-net) .1
@@ -134,26 +130,24 @@ module _ (s r cells : List ℕ) (past : Past s r cells) where
   -- whatever their tables, and whatever the output
   pub refuses-23 : (output : List ℕ)
       → ((place : ℕ) × (keepCall s r cells output .answer ≡ turnedAway neither 23 place)) ↔ ((filling : List Gate) → FillingFor net t filling → ⊥)
-  refuses-23 output = go (past-ends output)
+  refuses-23 output = elim (past-ends output) [
+    | ends-23-0 out e ↦ (λ _. exactly .0 (inl out), λ none. (0, answered e))
+    | ends-23 takes crowded e ↦ (λ _. exactly .0 (inr crowded), λ none. (suc (roomyBefore net t), answered e))
+    | ends-15 roomy short e ↦ (
+      λ is. absurd (omega (arith, turned-number neither neither 15 23 _ (is .0) (sym (answered e) ∙ is .1))),
+      λ none. absurd (not-roomy roomy none),
+    )
+    | ends-written roomy fits e ↦ (
+      λ is. absurd (rewritten-not _ _ neither 23 (is .0) (sym (answered e) ∙ is .1)),
+      λ none. absurd (not-roomy roomy none),
+    )
+  ]
     where
       exactly : ((leavesOut net t ≡ true) ⊎ (roomyBefore net t < length (net .gates))) ↔ ((filling : List Gate) → FillingFor net t filling → ⊥)
       exactly = crowded-exactly net t kept-net kept-t (past .header)
 
       not-roomy : Roomy net t → ((filling : List Gate) → FillingFor net t filling → ⊥) → ⊥
       not-roomy roomy none = ⊎-elim (λ out. true≢false (sym out ∙ roomy .0)) (λ crowded. omega (arith, roomy .1)) (exactly .1 none)
-
-      go : PastEnds output
-          → ((place : ℕ) × (keepCall s r cells output .answer ≡ turnedAway neither 23 place)) ↔ ((filling : List Gate) → FillingFor net t filling → ⊥)
-      go (ends-23-0 out e) = (λ _. exactly .0 (inl out), λ none. (0, answered e))
-      go (ends-23 takes crowded e) = (λ _. exactly .0 (inr crowded), λ none. (suc (roomyBefore net t), answered e))
-      go (ends-15 roomy short e) = (
-        λ is. absurd (omega (arith, turned-number neither neither 15 23 _ (is .0) (sym (answered e) ∙ is .1))),
-        λ none. absurd (not-roomy roomy none),
-      )
-      go (ends-written roomy fits e) = (
-        λ is. absurd (rewritten-not _ _ neither 23 (is .0) (sym (answered e) ∙ is .1)),
-        λ none. absurd (not-roomy roomy none),
-      )
 
   -- "A kept wiring that leaves out an input that matters is refused with 23 at place 0, before its gates are judged.": whatever the output, and
   -- "leaves the cells written", the output untouched, ..
@@ -187,7 +181,12 @@ module _ (s r cells : List ℕ) (past : Past s r cells) where
 
   pub place-23 : (output : List ℕ) (place : ℕ) → 0 < place → keepCall s r cells output .answer ≡ turnedAway neither 23 place → FirstCrowded output place
   unfolding roomyBefore
-  place-23 output place some d = go (past-ends output)
+  place-23 output place some d = elim (past-ends output) [
+    | ends-23-0 out e ↦ absurd (omega (arith, turned-place neither neither 23 23 0 place (sym (answered e) ∙ d)))
+    | ends-23 takes crowded e ↦ subst (FirstCrowded output) (turned-place neither neither 23 23 _ place (sym (answered e) ∙ d)) (first takes crowded e)
+    | ends-15 roomy short e ↦ absurd (omega (arith, turned-number neither neither 15 23 _ place (sym (answered e) ∙ d)))
+    | ends-written roomy fits e ↦ absurd (rewritten-not _ _ neither 23 place (sym (answered e) ∙ d))
+  ]
     where
       pos : 0 < net .header .levels
       pos = levels-pos (net .header .levels) (kept-net .header .levels)
@@ -206,12 +205,6 @@ module _ (s r cells : List ℕ) (past : Past s r cells) where
             roomy-before (net .header .levels) (net .header .inputs) pos (inkIn (t .inks)) (net .gates) (kept-net .gates) (k - 1) (omega arith);
         leaves = e;
       }
-
-      go : PastEnds output → FirstCrowded output place
-      go (ends-23-0 out e) = absurd (omega (arith, turned-place neither neither 23 23 0 place (sym (answered e) ∙ d)))
-      go (ends-23 takes crowded e) = subst (FirstCrowded output) (turned-place neither neither 23 23 _ place (sym (answered e) ∙ d)) (first takes crowded e)
-      go (ends-15 roomy short e) = absurd (omega (arith, turned-number neither neither 15 23 _ place (sym (answered e) ∙ d)))
-      go (ends-written roomy fits e) = absurd (rewritten-not _ _ neither 23 place (sym (answered e) ∙ d))
 
   -- ---- if some filling computes the table
 
@@ -264,8 +257,7 @@ own-comes-back net t kept kept-t header has own r reads cells output long fits =
     takes roomy (subst⁻¹ (λ (k : Net). length (printedNet k) ≤ length output) own fits)
     ∙ ap (λ (k : Net). record {
       answer = rewritten (length (printedNet k)) (changedGates (net .gates) (k .gates));
-      cells =
-          written cells (t .inks);
+      cells = written cells (t .inks);
       output = written output (printedNet k);
     }) own
     ∙ ap (λ (changed : ℕ).
@@ -293,30 +285,28 @@ pub data KeepEnds (s r cells output : List ℕ) : Type 0 where
   goes-past : Past s r cells → KeepEnds s r cells output
 
 pub keep-ends : (s r cells output : List ℕ) → KeepEnds s r cells output
-keep-ends s r cells output = go (readNet s) refl (readTable r) refl
+keep-ends s r cells output = answer-cases (readNet s)
+    (λ number place d. ends-before netNamed number place (keep-net-refused s r cells output number place d))
+    (λ net d. answer-cases (readTable r)
+    (λ number place e. ends-before tableNamed number place (keep-table-refused s r cells output net d number place e))
+    (λ t e. both net d t e (keep-accepted s r cells output net d t e) (decLe (length (t .inks)) (length cells))))
   where
-    go : (a : Answer Net) → readNet s ≡ a → (b : Answer Table) → readTable r ≡ b → KeepEnds s r cells output
-    go (refused number place) d b e = ends-before netNamed number place (keep-net-refused s r cells output number place d)
-    go (accepted net) d (refused number place) e = ends-before tableNamed number place (keep-table-refused s r cells output net d number place e)
-    go (accepted net) d (accepted t) e = both (sameHeader (net .header) (t .header)) refl (fullTable t) refl (decLe (length (t .inks)) (length cells))
-      where
-        on : keepCall s r cells output ≡ keptInto net t cells output
-        on = keep-accepted s r cells output net d t e
-
-        both : (same : Bool) → sameHeader (net .header) (t .header) ≡ same → (a : Answer (Unit {0})) → fullTable t ≡ a → Dec (length (t .inks) ≤ length cells)
-            → KeepEnds s r cells output
-        both false h a f fits = ends-before neither 12 0 (on ∙ keep-12 net t cells output h)
-        both true h (refused number place) f fits = ends-before tableNamed number place (on ∙ keep-27 net t cells output h number place f)
-        both true h (accepted _) f (no short) = ends-before neither 13 (length (t .inks)) (on ∙ keep-13 net t cells output h f (lt-of-not-le short))
-        both true h (accepted _) f (yes fits) =
-            goes-past (record {
-              net = net;
-              table = t;
-              reads-net = d;
-              reads-table = read-full r t e f;
-              header = header-same (net .header) (t .header) h;
-              long = subst (λ (k : ℕ). k ≤ length cells) (table-accepted r t e .1 .count) fits;
-            })
+    both : (net : Net) → readNet s ≡ accepted net → (t : Table) → readTable r ≡ accepted t → keepCall s r cells output ≡ keptInto net t cells output
+        → Dec (length (t .inks) ≤ length cells) → KeepEnds s r cells output
+    both net d t e on fits = test-cases (sameHeader (net .header) (t .header))
+        (λ h. answer-cases (fullTable t)
+        (λ number place f. ends-before tableNamed number place (on ∙ keep-27 net t cells output h number place f))
+        (λ _ f. by-cases fits
+        (λ long. goes-past (record {
+          net = net;
+          table = t;
+          reads-net = d;
+          reads-table = read-full r t e f;
+          header = header-same (net .header) (t .header) h;
+          long = subst (λ (k : ℕ). k ≤ length cells) (table-accepted r t e .1 .count) long;
+        }))
+        (λ short. ends-before neither 13 (length (t .inks)) (on ∙ keep-13 net t cells output h f (lt-of-not-le short)))))
+        (λ h. ends-before neither 12 0 (on ∙ keep-12 net t cells output h))
 
 -- What an accepted answer means.
 pub record Rewrites (s r cells output : List ℕ) (count changed : ℕ) : Type 0 where
@@ -347,7 +337,10 @@ kept-by-rule net t = refl
 
 pub rewrites : (s r cells output : List ℕ) (count changed : ℕ) → keepCall s r cells output .answer ≡ rewritten count changed
     → Rewrites s r cells output count changed
-rewrites s r cells output count changed d = go (keep-ends s r cells output)
+rewrites s r cells output count changed d = elim (keep-ends s r cells output) [
+  | ends-before named number place e ↦ absurd (rewritten-not count changed named number place (sym d ∙ answered e))
+  | goes-past past ↦ ended past (past-ends s r cells past output)
+]
   where
     ended : (past : Past s r cells) → PastEnds s r cells past output → Rewrites s r cells output count changed
     ended past (ends-23-0 out e) = absurd (rewritten-not count changed neither 23 _ (sym d ∙ answered e))
@@ -376,10 +369,6 @@ rewrites s r cells output count changed d = go (keep-ends s r cells output)
               (kept-twice (past .net) (past .table));
         }
 
-    go : KeepEnds s r cells output → Rewrites s r cells output count changed
-    go (ends-before named number place e) = absurd (rewritten-not count changed named number place (sym d ∙ answered e))
-    go (goes-past past) = ended past (past-ends s r cells past output)
-
 -- ---- the settled net and the family
 
 module _ (r : List ℕ) (t : Table) (reads : readFull r ≡ accepted t) where
@@ -405,8 +394,7 @@ module _ (r : List ℕ) (t : Table) (reads : readFull r ≡ accepted t) where
       ≡ record {
         answer = rewritten (length made) (changedGates (net .gates) (settledNet t .gates));
         cells = written cells' (t .inks);
-        output =
-            written output' made;
+        output = written output' made;
       }
   keep-as-making cells marks output made e s net reads-net header wiring cells' output' long fits =
       let (reads-made, has) = made-sheet r t reads cells marks output made e in
@@ -421,14 +409,12 @@ module _ (r : List ℕ) (t : Table) (reads : readFull r ≡ accepted t) where
       (subst⁻¹ (λ (k : Net). length (printedNet k) ≤ length output') is (subst (λ (b : List ℕ). length b ≤ length output') printed fits))
       ∙ ap (λ (k : Net). record {
         answer = rewritten (length (printedNet k)) (changedGates (net .gates) (k .gates));
-        cells =
-            written cells' (t .inks);
+        cells = written cells' (t .inks);
         output = written output' (printedNet k);
       }) is
       ∙ ap (λ (b : List ℕ).
       record {
         answer = rewritten (length b) (changedGates (net .gates) (settledNet t .gates));
         cells = written cells' (t .inks);
-        output =
-            written output' b;
+        output = written output' b;
       }) (sym printed)

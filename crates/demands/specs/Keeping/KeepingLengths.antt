@@ -1,14 +1,14 @@
 -- With the buffers that include/sitgurp.h says always suffice, keeping a wiring refuses only with the numbers of its two sheets, 27, 12 and 23.
 -- Assumes nothing.
 use Rattle.laws.specs.Prelude.{ℕ, _≤_, _^_, _≡_, _∙_, sym, ap, refl, subst₂, true, false, Bool, List, [], _∷_, le-trans, arith, length}
-use Rattle.rules.specs.Lists.{all, any}
-use Rattle.rules.specs.Limits.{mostCells, mostSettled}
-use Rattle.rules.specs.Sheets.Sheets.{Net, Table}
 use Rattle.rules.specs.Calls.Answers.{Answer, accepted, refused, Named, netNamed, tableNamed, neither}
-use Rattle.rules.specs.Sheets.Reading.{readNet, readTable}
-use Rattle.rules.specs.Calls.OpenCells.{fullTable}
 use Rattle.rules.specs.Calls.Checking.{sameHeader}
 use Rattle.rules.specs.Calls.Keeping.{Keeping, turnedAway, KeptWiring, keepCall}
+use Rattle.rules.specs.Calls.OpenCells.{fullTable}
+use Rattle.rules.specs.Limits.{mostCells, mostSettled}
+use Rattle.rules.specs.Lists.{all, any}
+use Rattle.rules.specs.Sheets.Reading.{readNet, readTable}
+use Rattle.rules.specs.Sheets.Sheets.{Net, Table}
 use Rattle.laws.specs.Lists.Distinct.{In, wider}
 use Rattle.laws.specs.Calls.OpenCells.{read-full}
 use Rattle.laws.specs.Calls.Keeping.{keep-net-refused, keep-table-refused, keep-accepted, keep-12, keep-27}

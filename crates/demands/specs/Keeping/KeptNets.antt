@@ -2,19 +2,19 @@
 -- Assumes nothing.
 use Rattle.laws.specs.Prelude.{ℕ, _<_, _≤_, _^_, _≡_, _∙_, sym, ap, refl, subst⁻¹, _↔_, ⊎-elim, _⊎_, inl, inr, true, false, Bool, _&&_, not, true≢false}
 use Rattle.laws.specs.Prelude.{and-eq-true-iff, List, arith, eqb, length, getD, not-true}
-use Rattle.rules.specs.Lists.{range, any, those, firstPlace}
-use Rattle.rules.specs.Sheets.Sheets.{Header, Gate, Net, Table, usedBy}
-use Rattle.rules.specs.Nets.Leaves.{matters}
-use Rattle.rules.specs.Nets.Settled.{settledGates}
-use Rattle.rules.specs.Nets.Family.{familyGates}
-use Rattle.rules.specs.Sheets.SheetRules.{NetRules}
-use Rattle.demands.specs.Sheets.FullSheets.{FullTableRules}
 use Rattle.rules.specs.Calls.Answers.{inkIn}
-use Rattle.rules.specs.Nets.Arrivals.{usedInputs}
-use Rattle.rules.specs.Sheets.Reading.{tableOfNet}
-use Rattle.rules.specs.Calls.Settling.{settledNet}
 use Rattle.rules.specs.Calls.FamilyCalls.{familyNet}
 use Rattle.rules.specs.Calls.Keeping.{gateLinks, keptGates, keptNet, roomyBefore, leavesOut}
+use Rattle.rules.specs.Calls.Settling.{settledNet}
+use Rattle.rules.specs.Lists.{range, any, those, firstPlace}
+use Rattle.rules.specs.Nets.Arrivals.{usedInputs}
+use Rattle.rules.specs.Nets.Family.{familyGates}
+use Rattle.rules.specs.Nets.Leaves.{matters}
+use Rattle.rules.specs.Nets.Settled.{settledGates}
+use Rattle.rules.specs.Sheets.Reading.{tableOfNet}
+use Rattle.rules.specs.Sheets.SheetRules.{NetRules}
+use Rattle.rules.specs.Sheets.Sheets.{Header, Gate, Net, Table, usedBy}
+use Rattle.demands.specs.Sheets.FullSheets.{FullTableRules}
 use Rattle.laws.specs.Lists.Tests.{not-false-true}
 use Rattle.laws.specs.Lists.FirstPlaces.{first-passing}
 use Rattle.laws.specs.Lists.Places.{mem-getD}
@@ -64,11 +64,7 @@ left-out net t = (
     test i = not (any (eqb i) (usedBy (net .gates))) && matters (net .header .levels) (net .header .inputs) (inkIn (t .inks)) i
 
 module _ (net : Net) (t : Table) (kept : NetRules net) (kept-t : FullTableRules t) (header : net .header ≡ t .header) where
-  abbrev m : ℕ
-  m = net .header .levels
-
-  abbrev n : ℕ
-  n = net .header .inputs
+  open Header (net .header) using (levels as m, inputs as n)
 
   pos : 0 < m
   pos = levels-pos m (kept .header .levels)

@@ -3,13 +3,13 @@
 -- each input that matters, at least two and otherwise no more, and another input only if no earlier one is left out.
 -- Assumes nothing.
 use Rattle.laws.specs.Prelude.{ℕ, _<_, _-_, suc, zero, max, _≡_, _∙_, sym, ap, refl, _↔_, _≢_, ⊎-elim, true, false, Bool, not, true≢false, cond, List, _∷_}
-use Rattle.laws.specs.Prelude.{List·Memᴰ, List·Memᴰ·head, List·Memᴰ·not-nil, List·Memᴰ·tail, List·Memᴰ·append-cases, List·Memᴰ·cases-cons}
-use Rattle.laws.specs.Prelude.{Memᴰ·append-right, zero-add, arith, eqb, length, getD, take, eq-eqb}
-use Rattle.rules.specs.Lists.{range, those}
-use Rattle.rules.specs.Sheets.Sheets.{Table, level, levelsAt}
+use Rattle.laws.specs.Prelude.{List·Memᴰ, List·Memᴰ·head, List·Memᴰ·not-nil, List·Memᴰ·tail, List·Memᴰ·append-cases, List·Memᴰ·cases-cons, Memᴰ·append-right}
+use Rattle.laws.specs.Prelude.{zero-add, arith, eqb, length, getD, take, eq-eqb, test-cases}
 use Rattle.rules.specs.Groups.Groups.{member, size}
+use Rattle.rules.specs.Lists.{range, those}
 use Rattle.rules.specs.Nets.Leaves.{matters, mattering, leafInputs}
 use Rattle.rules.specs.Sheets.SheetRules.{TableRules}
+use Rattle.rules.specs.Sheets.Sheets.{Table, level, levelsAt}
 use Rattle.laws.specs.Numbers.Assignments.{indexOf, index-levels, index-of-below, levels-index, levels-given}
 use Rattle.laws.specs.Lists.Tests.{mem-any}
 use Rattle.laws.specs.Lists.Ranges.{mem-range, range-mem, map-range-at}
@@ -112,11 +112,16 @@ module _ (t : Table) (kept : TableRules t) where
   -- .. "the first-listed": every input before a leaf that does not matter is a leaf
   pub leaf-first : (i j : ℕ) → i < j → j < n → matters m n f j ≡ false → member j (leavesOfTable t) ≡ true → member i (leavesOfTable t) ≡ true
   unfolding leafInputs mattering
-  leaf-first i j less j< idle is = go (matters m n f i) refl
+  leaf-first i j less j< idle is =
+      let i< : i < n = omega arith in
+      test-cases (matters m n f i)
+      (λ own. leaf-mattering i i< own)
+      (λ own. leaf-is m n pos f i i<
+      ∙ mem-any (eqb i)
+      (Memᴰ·append-right (mattering m n f)
+      (first-those idleTest 0 n spare i j less (mem-those idleTest i (range 0 n) (mem-range 0 n i (omega arith) (omega arith)) (ap not own))
+      among)) (eq-eqb i i refl))
     where
-      i< : i < n
-      i< = omega arith
-
       idleTest : ℕ → Bool
       idleTest k = not (matters m n f k)
 
@@ -131,12 +136,3 @@ module _ (t : Table) (kept : TableRules t) where
       among =
           ⊎-elim (λ first. absurd (true≢false (sym (those-pass (matters m n f) j (range 0 n) first) ∙ idle))) (λ later. later)
           (List·Memᴰ·append-cases (mattering m n f) (any-mem j (leafInputs m n f) (sym (leaf-is m n pos f j j<) ∙ is)))
-
-      go : (b : Bool) → matters m n f i ≡ b → member i (leavesOfTable t) ≡ true
-      go true own = leaf-mattering i i< own
-      go false own =
-          leaf-is m n pos f i i<
-          ∙ mem-any (eqb i)
-          (Memᴰ·append-right (mattering m n f)
-          (first-those idleTest 0 n spare i j less (mem-those idleTest i (range 0 n) (mem-range 0 n i (omega arith) (omega arith)) (ap not own))
-          among)) (eq-eqb i i refl)

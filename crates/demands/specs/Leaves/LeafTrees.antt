@@ -4,20 +4,20 @@
 -- inputs with all that matter. Stated for gate lists, accepted net sheets and Section I's trees.
 -- Assumes nothing.
 use Rattle.laws.specs.Prelude.{ℕ, _<_, _≤_, _^_, suc, zero, _≡_, _∙_, sym, _↔_, Iff·trans, Iff·not, true, List, arith, length}
-use Rattle.rules.specs.Sheets.Sheets.{Gate, Net, Table}
-use Rattle.rules.specs.Sheets.Printed.{printedNet}
+use Rattle.rules.specs.Calls.Answers.{accepted, refused, inkIn}
+use Rattle.rules.specs.Calls.OpenCells.{readFull}
+use Rattle.rules.specs.Calls.Settling.{makeCall}
 use Rattle.rules.specs.Groups.Groups.{member, size, wholeGroup}
 use Rattle.rules.specs.Groups.Marks.{marksOf, marksLength}
-use Rattle.rules.specs.Nets.Wirings.{groupOf, linksOf}
 use Rattle.rules.specs.Nets.Filling.{filled}
 use Rattle.rules.specs.Nets.Leaves.{matters}
 use Rattle.rules.specs.Nets.Settled.{settledWiring}
-use Rattle.rules.specs.Sheets.SheetRules.{IsNet}
-use Rattle.rules.specs.Calls.Answers.{accepted, refused, inkIn}
-use Rattle.rules.specs.Sheets.Reading.{readNet, tableOfNet}
-use Rattle.rules.specs.Calls.OpenCells.{readFull}
-use Rattle.rules.specs.Calls.Settling.{makeCall}
 use Rattle.rules.specs.Nets.Trees.{Tree, wiringIn, Computes, UsesJust}
+use Rattle.rules.specs.Nets.Wirings.{groupOf, linksOf}
+use Rattle.rules.specs.Sheets.Printed.{printedNet}
+use Rattle.rules.specs.Sheets.Reading.{readNet, tableOfNet}
+use Rattle.rules.specs.Sheets.SheetRules.{IsNet}
+use Rattle.rules.specs.Sheets.Sheets.{Gate, Net, Table}
 use Rattle.trees.specs.Groups.Members.{whole-below, member-whole, member-ext, size-whole, size-zero}
 use Rattle.trees.specs.Trees.Wirings.{group-below}
 use Rattle.trees.specs.Trees.MarkTwo.{settled-wiring-of}
@@ -25,8 +25,7 @@ use Rattle.trees.specs.Leaves.LeafGroup.{leaves-below, leaves-hold, leaves-seve
 use Rattle.trees.specs.Leaves.CutWirings.{holding-marked}
 use Rattle.trees.specs.Trees.Existence.{filled-computes, filled-leaves}
 use Rattle.trees.specs.Trees.TreeExistence.{tree-is-net, net-is-gate-tree}
-use Rattle.trees.specs.Trees.NetTables.{levels-pos, inputs-several}
-use Rattle.demands.specs.Sheets.FullSheets.{FullTableRules, full-accepted}
+use Rattle.demands.specs.Sheets.FullSheets.{FullTableRules, FullFacts, full-facts, full-accepted}
 use Rattle.demands.specs.Settling.Makes.{TableLetters, tableLetters, leavesOfTable, HasTree, two-tree, netWith, gates-sheet, sheet-gates, make-refuses}
 use Rattle.demands.specs.Settling.TreeClause.{TreeFor, TreeAgrees, agrees-all}
 
@@ -57,15 +56,7 @@ some-member n (suc g) h = omega arith
 
 module _ (t : Table) (kept : FullTableRules t) where
   open TableLetters (tableLetters t) using (m, n, f)
-
-  pos : 0 < m
-  pos = levels-pos m (kept .header .levels)
-
-  several : 1 < n
-  several = inputs-several n (kept .header .inputs)
-
-  inks-below : (p : ℕ) → p < m ^ n → f p < m
-  inks-below p h = kept .below p (rw (kept .count) h)
+  open FullFacts (full-facts t kept) using (pos, several, inks-below)
 
   -- the leaves of the settled tree are such a group, ..
   pub leaves-may : MayBeLeaves t (leavesOfTable t)

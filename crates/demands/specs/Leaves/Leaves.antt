@@ -4,24 +4,24 @@
 -- no more gates than its leaves need, and that nothing with that table has fewer gates.
 -- Assumes nothing.
 use Rattle.laws.specs.Prelude.{ℕ, _<_, _≤_, suc, max, _≡_, _∙_, sym, ap, subst, by-cases, true, false, List, lt-of-not-le, decLe, arith, eqb, length}
-use Rattle.rules.specs.Lists.{any}
-use Rattle.rules.specs.Sheets.Sheets.{Gate, Net, Table, usedBy}
-use Rattle.rules.specs.Groups.Groups.{size}
-use Rattle.rules.specs.Nets.Wirings.{gatesIn}
-use Rattle.rules.specs.Nets.Leaves.{matters, mattering}
-use Rattle.rules.specs.Sheets.SheetRules.{IsNet, NetRules}
 use Rattle.rules.specs.Calls.Answers.{Answer, accepted, inkIn}
-use Rattle.rules.specs.Sheets.Reading.{readNet, tableOfNet}
+use Rattle.rules.specs.Calls.FamilyCalls.{familyNet, familyTreeCall}
 use Rattle.rules.specs.Calls.OpenCells.{readFull}
 use Rattle.rules.specs.Calls.Settling.{settledNet, madeInto, settleCall, makeCall}
 use Rattle.rules.specs.Calls.ShallowSettling.{shallowNet, layeredInto, settleShallowCall, makeShallowCall}
-use Rattle.rules.specs.Calls.FamilyCalls.{familyNet, familyTreeCall}
+use Rattle.rules.specs.Groups.Groups.{size}
+use Rattle.rules.specs.Lists.{any}
+use Rattle.rules.specs.Nets.Leaves.{matters, mattering}
+use Rattle.rules.specs.Nets.Trees.{Tree, wiringIn, Computes, UsesJust}
+use Rattle.rules.specs.Nets.Wirings.{gatesIn}
+use Rattle.rules.specs.Sheets.Reading.{readNet, tableOfNet}
+use Rattle.rules.specs.Sheets.SheetRules.{IsNet, NetRules}
+use Rattle.rules.specs.Sheets.Sheets.{Gate, Net, Table, usedBy}
 use Rattle.rules.specs.Calls.Jobs.{Finished, Move, afterMoves, openJob, finishJob}
 use Rattle.laws.specs.Calls.Answers.{accepted-inj, not-refused}
 use Rattle.laws.specs.Calls.Settling.{WholeTwo, settle-accepted, make-accepted}
 use Rattle.laws.specs.Calls.ShallowSettling.{plain-into, settle-shallow-accepted, make-shallow-accepted}
 use Rattle.readback.specs.Sheets.ReadBack.{net-accepted, net-read-back}
-use Rattle.rules.specs.Nets.Trees.{Tree, wiringIn, Computes, UsesJust}
 use Rattle.trees.specs.Trees.NetTree.{net-group, net-uses}
 use Rattle.trees.specs.Trees.UsedOnce.{net-size}
 use Rattle.trees.specs.Leaves.LeafGroup.{leaves-below, leaves-matter}
@@ -30,9 +30,9 @@ use Rattle.trees.specs.Leaves.FewestGates.{net-gates-least, tree-gates-least}
 use Rattle.trees.specs.Shallow.ShallowNet.{shallow-leaves}
 use Rattle.trees.specs.Shallow.ShallowTables.{shallow-kept}
 use Rattle.trees.specs.Trees.Uniqueness.{table-at}
-use Rattle.trees.specs.Trees.NetTables.{levels-pos, inputs-several}
+use Rattle.trees.specs.Trees.NetTables.{levels-pos}
 use Rattle.demands.specs.Settling.Settles.{sheetIn, sheetOf}
-use Rattle.demands.specs.Sheets.FullSheets.{FullTableRules, full-keeps, net-kept, full-accepted}
+use Rattle.demands.specs.Sheets.FullSheets.{FullTableRules, FullFacts, full-facts, full-keeps, net-kept, full-accepted}
 use Rattle.demands.specs.Settling.Makes.{TableLetters, tableLetters, leavesOfTable, made-kept, sheet-gates, into-accepted}
 use Rattle.demands.specs.Settling.TreeClause.{TreeFor, TreeAgrees, agrees-all}
 use Rattle.demands.specs.Leaves.LeafInputs.{leaf-count, leaf-first}
@@ -66,12 +66,7 @@ pub record OnLeaves (t : Table) (net : Net) : Type 0 where
 
 module _ (t : Table) (kept : FullTableRules t) where
   open TableLetters (tableLetters t) using (m, n, f)
-
-  pos : 0 < m
-  pos = levels-pos m (kept .header .levels)
-
-  several : 1 < n
-  several = inputs-several n (kept .header .inputs)
+  open FullFacts (full-facts t kept) using (pos, several)
 
   -- a net that uses just these has all these properties
   on-leaves : (net : Net) → IsNet m n (net .gates) → UsesJust n (net .gates) (leavesOfTable t) → OnLeaves t net

@@ -1,9 +1,9 @@
 -- The numbers with which the call for arrival times may refuse, by the sheet that it refuses.
 -- Assumes nothing.
 use Rattle.laws.specs.Prelude.{ℕ, _≡_, subst, List, arith}
+use Rattle.rules.specs.Nets.Arrivals.{Timing, netRefused, arrivalsRefused, arrivalsCall}
 use Rattle.rules.specs.Sheets.Reading.{readNet}
 use Rattle.rules.specs.Sheets.ArrivalSheet.{readArrivals}
-use Rattle.rules.specs.Nets.Arrivals.{Timing, netRefused, arrivalsRefused, arrivalsCall}
 use Rattle.laws.specs.Lists.Distinct.{In}
 use Rattle.readback.specs.Readers.Numbers.{netNumbers, net-refusal}
 use Rattle.readback.specs.Arrivals.ArrivalRefusals.{arrivalNumbers, arrivals-refusal}

@@ -1,11 +1,11 @@
 -- The numbers with which checking may refuse.
 -- Assumes nothing.
 use Rattle.laws.specs.Prelude.{ℕ, _≡_, refl, subst₂, _&&_, not, List, [], _∷_, arith, eqb, ltb, length, getD}
-use Rattle.rules.specs.Lists.{range, any, firstPlace}
 use Rattle.rules.specs.Calls.Answers.{Named, netNamed, tableNamed, neither}
-use Rattle.rules.specs.Sheets.Reading.{readNet, readTable}
-use Rattle.rules.specs.Calls.OpenCells.{isOpen}
 use Rattle.rules.specs.Calls.Checking.{Verdict, turnedDown, sameHeader, compared, Checked, checkedInto, checkCall}
+use Rattle.rules.specs.Calls.OpenCells.{isOpen}
+use Rattle.rules.specs.Lists.{range, any, firstPlace}
+use Rattle.rules.specs.Sheets.Reading.{readNet, readTable}
 use Rattle.laws.specs.Lists.Distinct.{In}
 use Rattle.readback.specs.Readers.Numbers.{netNumbers, tableNumbers, net-refusal, table-refusal}
 use Rattle.demands.specs.Numbers.Numbers.{by-answer}

@@ -2,15 +2,15 @@
 -- place of 16 in the second call".
 -- Assumes nothing.
 use Rattle.laws.specs.Prelude.{ℕ, _≡_, _∙_, sym, refl, List, [], _∷_}
-use Rattle.rules.specs.Lists.{all, any}
 use Rattle.rules.specs.Calls.Answers.{refused}
-use Rattle.rules.specs.Calls.Settling.{Made}
 use Rattle.rules.specs.Calls.FamilyCalls.{countOfTable, Counted, familyCountCall, familyTreeCall}
+use Rattle.rules.specs.Calls.Settling.{Made}
+use Rattle.rules.specs.Lists.{all, any}
 use Rattle.laws.specs.Calls.Answers.{not-refused}
 use Rattle.laws.specs.Lists.Distinct.{In, wider}
 use Rattle.demands.specs.Numbers.Numbers.{Gives, not-given, refuses}
 use Rattle.demands.specs.Numbers.SettlingNumbers.{sheet-numbers}
-use Rattle.demands.specs.Families.FamilyOutcomes.{made-answer, counted-answer, judgedNumbers, SheetJudged, turned-back, goes-on, judge}
+use Rattle.demands.specs.Families.FamilyOutcomes.{made-answer, counted-answer, judgedNumbers, turned-back, goes-on, judge}
 use Rattle.demands.specs.Families.FamilyOutcomes.{NumberJudged, refuses-all, no-number, has-tree, judge-number}
 
 -- those, 17 and 15
@@ -20,14 +20,13 @@ familyTreeNumbers = 1 ∷ 2 ∷ 3 ∷ 4 ∷ 5 ∷ 6 ∷ 27 ∷ 13 ∷ 14 ∷ 17 
 module _ (s cells marks : List ℕ) where
   -- the count: the sheet's numbers, 13 and 14
   pub family-count-numbers : Gives judgedNumbers (familyCountCall s cells marks .answer)
-  family-count-numbers number place e = go (judge s cells marks)
+  family-count-numbers number place e = elim (judge s cells marks) [
+    | turned-back k at is ↦ refuses judgedNumbers k at (is .listed) number place (answer _ (is .counts))
+    | goes-on t is ↦ absurd (not-refused (countOfTable t) number place (answer _ (is .counts)))
+  ]
     where
       answer : (made : Counted) → familyCountCall s cells marks ≡ made → made .answer ≡ refused number place
       answer made d = sym (counted-answer d) ∙ e
-
-      go : SheetJudged s cells marks → In number judgedNumbers
-      go (turned-back k at is) = refuses judgedNumbers k at (is .listed) number place (answer _ (is .counts))
-      go (goes-on t is) = absurd (not-refused (countOfTable t) number place (answer _ (is .counts)))
 
   -- "never 16", ..
   pub family-count-never-16 : (place : ℕ) → familyCountCall s cells marks .answer ≡ refused 16 place → ⊥

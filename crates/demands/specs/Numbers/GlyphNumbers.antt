@@ -1,9 +1,9 @@
 -- The numbers with which the glyph call may refuse.
 -- Assumes nothing.
 use Rattle.laws.specs.Prelude.{ℕ, _<_, _≤_, _*_, _≡_, refl, true, List, [], _∷_, mul-le-mul, arith, eqb, ltb, length, ltb-true}
-use lib.IntN.{ℤ}
 use Rattle.rules.specs.Lists.{all, any}
 use Rattle.rules.specs.Sheets.Reading.{readNet}
+use lib.IntN.{ℤ}
 use Rattle.rules.specs.Calls.TableWriting.{Written}
 use Rattle.rules.specs.Calls.Glyphs.{mostSide, pictureFits, offsetsFit, glyphJudged, glyphInto, glyphCall}
 use Rattle.laws.specs.Lists.Distinct.{In, wider}

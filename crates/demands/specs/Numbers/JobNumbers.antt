@@ -1,11 +1,11 @@
 -- The numbers with which a job's calls may refuse, for every job: opening with those of a sheet of a full table, a step with 21, asking with 11,
 -- finishing with 9, 10, 27, 22 and then making's; and that a refusal returns the job unchanged.
 -- Assumes nothing.
-use Rattle.laws.specs.Prelude.{ℕ, _≤_, _^_, _≡_, _∙_, sym, ap, refl, _||_, List, [], _∷_, lt-of-not-le, decLe, eqb, ltb, leb}
-use Rattle.rules.specs.Lists.{any}
+use Rattle.laws.specs.Prelude.{ℕ, _^_, _≡_, _∙_, sym, ap, refl, _||_, List, [], _∷_, lt-of-not-le, decLe, eqb, ltb, leb, by-cases}
 use Rattle.rules.specs.Calls.Answers.{refused}
 use Rattle.rules.specs.Calls.OpenCells.{readFull}
 use Rattle.rules.specs.Calls.Settling.{Made, settledNet}
+use Rattle.rules.specs.Lists.{any}
 use Rattle.rules.specs.Calls.Jobs.{Job, groupsOf, Opened, openJob, Stepped, stepJob, askJob, mayFinish, finishJob}
 use Rattle.laws.specs.Calls.Answers.{not-refused}
 use Rattle.laws.specs.Calls.Jobs.{step-done, step-on}
@@ -32,11 +32,9 @@ module _ (job : Job) where
 
   -- and leaves "the job .. untouched"
   pub step-untouched : (number place : ℕ) → stepJob job .answer ≡ refused number place → stepJob job .job ≡ job
-  step-untouched number place e = go (decLe (groupsOf job) (job .passed))
-    where
-      go : Dec (groupsOf job ≤ job .passed) → stepJob job .job ≡ job
-      go (yes done) = ap (λ (s : Stepped). s .job) (step-done job done)
-      go (no on) = absurd (not-refused tt number place (sym (ap (λ (s : Stepped). s .answer) (step-on job (lt-of-not-le on))) ∙ e))
+  step-untouched number place e = by-cases (decLe (groupsOf job) (job .passed))
+      (λ done. ap (λ (s : Stepped). s .job) (step-done job done))
+      (λ on. absurd (not-refused tt number place (sym (ap (λ (s : Stepped). s .answer) (step-on job (lt-of-not-le on))) ∙ e)))
 
   pub ask-numbers : (g : ℕ) → Gives (11 ∷ []) (askJob job g .answer)
   unfolding askJob any

@@ -1,13 +1,13 @@
 -- The numbers with which keeping a wiring may refuse, by the sheet that it names.
 -- Assumes nothing.
 use Rattle.laws.specs.Prelude.{ℕ, _≡_, refl, subst₂, List, [], _∷_, arith, ltb, length}
-use Rattle.rules.specs.Lists.{all, any}
-use Rattle.rules.specs.Sheets.Printed.{printedNet}
 use Rattle.rules.specs.Calls.Answers.{Named, netNamed, tableNamed, neither}
-use Rattle.rules.specs.Sheets.Reading.{readNet, readTable}
-use Rattle.rules.specs.Calls.OpenCells.{fullTable}
 use Rattle.rules.specs.Calls.Checking.{sameHeader}
 use Rattle.rules.specs.Calls.Keeping.{Keeping, rewritten, turnedAway, KeptWiring, keptNet, roomyBefore, leavesOut, keptInto, keepCall}
+use Rattle.rules.specs.Calls.OpenCells.{fullTable}
+use Rattle.rules.specs.Lists.{all, any}
+use Rattle.rules.specs.Sheets.Printed.{printedNet}
+use Rattle.rules.specs.Sheets.Reading.{readNet, readTable}
 use Rattle.laws.specs.Lists.Distinct.{In, wider}
 use Rattle.laws.specs.Lists.Tests.{by-test}
 use Rattle.readback.specs.Readers.Numbers.{netNumbers, tableNumbers, net-refusal, table-refusal}

@@ -1,9 +1,9 @@
 -- The numbers with which the marking call may refuse.
 -- Assumes nothing.
 use Rattle.laws.specs.Prelude.{ℕ, refl, List, [], _∷_, ltb, length}
-use Rattle.rules.specs.Lists.{any}
-use Rattle.rules.specs.Groups.Marks.{marksLength}
 use Rattle.rules.specs.Calls.OpenCells.{fullCells}
+use Rattle.rules.specs.Groups.Marks.{marksLength}
+use Rattle.rules.specs.Lists.{any}
 use Rattle.rules.specs.Calls.Marking.{Marked, markingCall}
 use Rattle.demands.specs.Numbers.Numbers.{Gives, accepts, cells-numbers, by-answer, refuses}
 use Rattle.laws.specs.Lists.Tests.{by-test}

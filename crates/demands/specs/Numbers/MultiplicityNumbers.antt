@@ -1,8 +1,8 @@
 -- The numbers with which the multiplicity call may refuse.
 -- Assumes nothing.
 use Rattle.laws.specs.Prelude.{ℕ, _^_, refl, _||_, List, [], _∷_, eqb, leb}
-use Rattle.rules.specs.Lists.{any}
 use Rattle.rules.specs.Calls.OpenCells.{fullCells}
+use Rattle.rules.specs.Lists.{any}
 use Rattle.rules.specs.Calls.Multiplicity.{multiplicityCall}
 use Rattle.demands.specs.Numbers.Numbers.{Gives, accepts, cells-numbers, by-onward, refuses}
 use Rattle.laws.specs.Lists.Tests.{by-test}

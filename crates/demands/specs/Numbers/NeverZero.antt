@@ -1,21 +1,21 @@
 -- No call refuses with 0.
 -- Assumes nothing.
 use Rattle.laws.specs.Prelude.{ℕ, _≡_, sym, refl, true≢false, List, [], _∷_}
-use lib.IntN.{ℤ}
-use Rattle.rules.specs.Lists.{any}
 use Rattle.rules.specs.Calls.Answers.{refused, Named, netNamed, tableNamed, neither}
-use Rattle.rules.specs.Calls.Multiplicity.{multiplicityCall}
-use Rattle.rules.specs.Calls.Marking.{markingCall}
+use Rattle.rules.specs.Calls.Checking.{turnedDown, checkCall}
+use Rattle.rules.specs.Calls.FamilyCalls.{familyCountCall, familyTreeCall}
+use Rattle.rules.specs.Calls.Keeping.{turnedAway, keepCall}
 use Rattle.rules.specs.Calls.Settling.{settleCall, makeCall}
 use Rattle.rules.specs.Calls.ShallowSettling.{settleShallowCall, makeShallowCall}
-use Rattle.rules.specs.Calls.FamilyCalls.{familyCountCall, familyTreeCall}
-use Rattle.rules.specs.Calls.Checking.{turnedDown, checkCall}
+use Rattle.rules.specs.Lists.{any}
+use Rattle.rules.specs.Nets.Arrivals.{netRefused, arrivalsRefused, arrivalsCall}
+use lib.IntN.{ℤ}
+use Rattle.rules.specs.Calls.Multiplicity.{multiplicityCall}
+use Rattle.rules.specs.Calls.Marking.{markingCall}
 use Rattle.rules.specs.Calls.TableWriting.{writeTableCall}
 use Rattle.rules.specs.Calls.Tidying.{tidyCall}
 use Rattle.rules.specs.Calls.Lister.{listing}
-use Rattle.rules.specs.Nets.Arrivals.{netRefused, arrivalsRefused, arrivalsCall}
 use Rattle.rules.specs.Calls.Jobs.{Job, openJob, stepJob, askJob, finishJob}
-use Rattle.rules.specs.Calls.Keeping.{turnedAway, keepCall}
 use Rattle.rules.specs.Calls.Glyphs.{glyphCall}
 use Rattle.laws.specs.Lists.Distinct.{In}
 use Rattle.readback.specs.Readers.Numbers.{netNumbers}

@@ -2,11 +2,11 @@
 -- fixes the number. Here: what it means that a call gives only certain numbers, for all inputs and buffers, and how to prove it case by case.
 -- Assumes nothing.
 use Rattle.laws.specs.Prelude.{ℕ, _^_, _≡_, _∙_, sym, refl, subst, true, false, Bool, _&&_, true≢false, List, eqb, leb, length}
-use Rattle.rules.specs.Lists.{all, any}
-use Rattle.rules.specs.Limits.{sizeFits}
 use Rattle.rules.specs.Calls.Answers.{Answer, accepted, refused, onward}
-use Rattle.rules.specs.Calls.BareCells.{bareCells}
 use Rattle.rules.specs.Calls.OpenCells.{isOpen, full, fullCells}
+use Rattle.rules.specs.Limits.{sizeFits}
+use Rattle.rules.specs.Lists.{all, any}
+use Rattle.rules.specs.Calls.BareCells.{bareCells}
 use Rattle.laws.specs.Lists.Distinct.{In, NotIn}
 use Rattle.laws.specs.Calls.Answers.{not-refused}
 use Rattle.laws.specs.Lists.Tests.{by-test}

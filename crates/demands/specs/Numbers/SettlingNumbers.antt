@@ -1,13 +1,13 @@
 -- The numbers with which settling and making may refuse.
 -- Assumes nothing.
 use Rattle.laws.specs.Prelude.{ℕ, _^_, _≡_, refl, subst⁻¹, List, [], _∷_, ℕ-discrete, ltb, length}
-use Rattle.rules.specs.Lists.{all, any}
-use Rattle.rules.specs.Sheets.Sheets.{Net, Table}
-use Rattle.rules.specs.Groups.Marks.{marksLength}
 use Rattle.rules.specs.Calls.Answers.{refused}
-use Rattle.rules.specs.Sheets.Reading.{readNet, tableOfNet}
 use Rattle.rules.specs.Calls.OpenCells.{readFull}
 use Rattle.rules.specs.Calls.Settling.{Made, settledNet, writtenSheet, afterMarks, roomFor, inRoom, madeInto, settleCall, makeCall}
+use Rattle.rules.specs.Groups.Marks.{marksLength}
+use Rattle.rules.specs.Lists.{all, any}
+use Rattle.rules.specs.Sheets.Reading.{readNet, tableOfNet}
+use Rattle.rules.specs.Sheets.Sheets.{Net, Table}
 use Rattle.laws.specs.Lists.Distinct.{In, wider}
 use Rattle.laws.specs.Calls.Settling.{WholeTwo, marked-16, marked-tree}
 use Rattle.readback.specs.Readers.Numbers.{netNumbers, net-refusal}

@@ -2,8 +2,8 @@
 -- Assumes nothing.
 use Rattle.laws.specs.Prelude.{ℕ, _^_, refl, List, [], _∷_, ltb, length}
 use Rattle.rules.specs.Lists.{all, any}
-use Rattle.rules.specs.Sheets.Sheets.{Table}
 use Rattle.rules.specs.Sheets.Printed.{printedTable}
+use Rattle.rules.specs.Sheets.Sheets.{Table}
 use Rattle.rules.specs.Sheets.LooseSheet.{readLoose, tableOfLoose}
 use Rattle.rules.specs.Calls.Tidying.{Tidied, tidyCall, tidiedInto, tidiedSheet}
 use Rattle.readback.specs.Readers.Numbers.{looseNumbers, loose-refusal}

@@ -2,16 +2,16 @@
 -- only." (K12): the ranges of the others do not matter.
 -- Assumes nothing.
 use Rattle.laws.specs.Prelude.{ℕ, _<_, _≤_, _+_, _-_, _*_, _≡_, _∙_, sym, ap, refl, subst, true, false, List, map, zero-mul, mul-le-mul-right, mul-le-mul}
-use Rattle.laws.specs.Prelude.{le-refl, arith, eqb, length, getD, length-map, List·getD-map}
-use lib.Ieee.Exact.{HasValue}
-use Rattle.rules.specs.Lists.{any}
+use Rattle.laws.specs.Prelude.{le-refl, arith, eqb, length, getD, length-map, List·getD-map, answer-cases}
+use Rattle.rules.specs.Calls.Answers.{accepted}
 use Rattle.rules.specs.Limits.{mostInputs, mostTime, mostDelay}
-use Rattle.rules.specs.Sheets.Sheets.{Net, usedBy}
-use Rattle.rules.specs.Calls.Answers.{Answer, accepted, refused}
+use Rattle.rules.specs.Lists.{any}
+use Rattle.rules.specs.Nets.Arrivals.{settlingTime, earliestSettling, latestSettling, Ends, settles, quarter, endsOf, arrivalsCall}
 use Rattle.rules.specs.Sheets.Reading.{readNet}
 use Rattle.rules.specs.Sheets.SheetRules.{NetRules}
+use Rattle.rules.specs.Sheets.Sheets.{Net, usedBy}
+use lib.Ieee.Exact.{HasValue}
 use Rattle.rules.specs.Sheets.ArrivalSheet.{Arrival, fixed, earliestOf, latestOf, readArrivals, EachArrivalRules, ArrivalSheetRules}
-use Rattle.rules.specs.Nets.Arrivals.{settlingTime, earliestSettling, latestSettling, Ends, settles, quarter, endsOf, arrivalsCall}
 use Rattle.laws.specs.Numbers.Quarters.{exactBelow, quarter-exact}
 use Rattle.laws.specs.Calls.Arrivals.{arrivals-net-refused, arrivals-refused, arrivals-timed}
 use Rattle.laws.specs.Nets.ArrivalEnds.{arrivalAt, each-order}
@@ -35,21 +35,17 @@ pub record SettlesAs (s r : List ℕ) (delay : ℕ) (ends : Ends) : Type 0 where
 
 -- the call settles exactly if both sheets are accepted
 pub settles-as : (s r : List ℕ) (delay : ℕ) (ends : Ends) → arrivalsCall s r delay ≡ settles ends → SettlesAs s r delay ends
-settles-as s r delay ends e = go (readNet s) refl
-  where
-    arrived : (net : Net) → readNet s ≡ accepted net → (a : Answer (List Arrival)) → readArrivals (net .header .names) r ≡ a → SettlesAs s r delay ends
-    arrived net reads (accepted arrivals) arrive =
-        let is = arrivals-timed s r delay net reads arrivals arrive in
-        record { net = net; arrivals = arrivals; reads = reads; arrive = arrive; are = cc }
-    arrived net reads (refused number place) arrive =
-        let is = arrivals-refused s r delay net reads number place arrive in
-        absurd (let z : _≡_ {A = ℕ} 0 1 = cc in omega arith)
-
-    go : (a : Answer Net) → readNet s ≡ a → SettlesAs s r delay ends
-    go (accepted net) reads = arrived net reads (readArrivals (net .header .names) r) refl
-    go (refused number place) reads =
-        let is = arrivals-net-refused s r delay number place reads in
-        absurd (let z : _≡_ {A = ℕ} 0 1 = cc in omega arith)
+settles-as s r delay ends e = answer-cases (readNet s)
+    (λ number place reads.
+    let is = arrivals-net-refused s r delay number place reads in
+    absurd (let z : _≡_ {A = ℕ} 0 1 = cc in omega arith))
+    (λ net reads. answer-cases (readArrivals (net .header .names) r)
+    (λ number place arrive.
+    let is = arrivals-refused s r delay net reads number place arrive in
+    absurd (let z : _≡_ {A = ℕ} 0 1 = cc in omega arith))
+    (λ arrivals arrive.
+    let is = arrivals-timed s r delay net reads arrivals arrive in
+    record { net = net; arrivals = arrivals; reads = reads; arrive = arrive; are = cc }))
 
 -- ---- arrivals inside the ranges
 

@@ -2,14 +2,14 @@
 -- assignment", now for "the assignments that aren't open" (document 02, K13). The table sheet written from a net sheet is accepted, and agrees.
 -- Assumes nothing.
 use Rattle.laws.specs.Prelude.{ℕ, _<_, _≤_, _^_, _≡_, _∙_, sym, ap, refl, subst, subst⁻¹, _↔_, true, false, Bool, List, lt-of-not-le, decLe, arith, length}
-use Rattle.laws.specs.Prelude.{getD}
-use Rattle.rules.specs.Lists.{same}
-use Rattle.rules.specs.Sheets.Sheets.{Header, Net, Table}
-use Rattle.rules.specs.Sheets.Printed.{printedTable}
-use Rattle.rules.specs.Nets.Value.{value}
+use Rattle.laws.specs.Prelude.{getD, by-cases}
 use Rattle.rules.specs.Calls.Answers.{Answer, accepted, refused, Named, netNamed, tableNamed, neither, inkIn, written}
 use Rattle.rules.specs.Calls.Checking.{Verdict, agree, differ, turnedDown, Checked, sameHeader, compared, checkedInto, checkCall}
+use Rattle.rules.specs.Lists.{same}
+use Rattle.rules.specs.Nets.Value.{value}
+use Rattle.rules.specs.Sheets.Printed.{printedTable}
 use Rattle.rules.specs.Sheets.Reading.{readNet, readTable, tableOfNet}
+use Rattle.rules.specs.Sheets.Sheets.{Header, Net, Table}
 use Rattle.rules.specs.Calls.TableWriting.{Written, writeTableCall}
 use Rattle.laws.specs.Calls.Checking.{same-header, header-same, check-net-refused, check-table-refused, check-accepted, check-12, check-13, check-compared}
 use Rattle.laws.specs.Calls.TableWriting.{table-15, table-written}
@@ -18,7 +18,7 @@ use Rattle.trees.specs.Trees.Uniqueness.{table-at, net-table-length}
 use Rattle.demands.specs.Settling.Settles.{sheetIn}
 use Rattle.laws.specs.Calls.Answers.{accepted-inj, not-refused, written-front}
 use Rattle.trees.specs.Trees.NetTables.{kept-table}
-use Rattle.laws.specs.Calls.Checking.{Compared, all-agree, first-differs, comparison}
+use Rattle.laws.specs.Calls.Checking.{all-agree, first-differs, comparison}
 
 -- ---- checking
 
@@ -58,18 +58,16 @@ module _ (s r : List ℕ) (net : Net) (t : Table) (reads-net : readNet s ≡ acc
 
   -- the check says yes exactly if the net's value is the table's ink at every assignment that is not open
   pub check-agrees : (checkCall s r cells .answer ≡ agree) ↔ ((p : ℕ) → p < t .header .levels ^ t .header .inputs → AgreeThere p)
-  check-agrees = go (comparison (t .header .levels) (tableOfNet net .inks) (t .inks))
-    where
-      go : Compared (t .header .levels) (tableOfNet net .inks) (t .inks)
-          → (checkCall s r cells .answer ≡ agree) ↔ ((p : ℕ) → p < t .header .levels ^ t .header .inputs → AgreeThere p)
-      go (all-agree e h) = (
-        λ _ p l shut. let l' : p < length (tableOfNet net .inks) = omega (arith, inks-length) in value-at p l' ∙ h p l' shut,
-        λ _. answer-is ∙ e,
-      )
-      go (first-differs k e l shut unlike earlier) = (
-        λ a. absurd (agree-differ k (sym a ∙ answer-is ∙ e)),
-        λ h. absurd (unlike (sym (value-at k l) ∙ h k (omega (arith, inks-length)) shut)),
-      )
+  check-agrees = elim (comparison (t .header .levels) (tableOfNet net .inks) (t .inks)) [
+    | all-agree e h ↦ (
+      λ _ p l shut. let l' : p < length (tableOfNet net .inks) = omega (arith, inks-length) in value-at p l' ∙ h p l' shut,
+      λ _. answer-is ∙ e,
+    )
+    | first-differs k e l shut unlike earlier ↦ (
+      λ a. absurd (agree-differ k (sym a ∙ answer-is ∙ e)),
+      λ h. absurd (unlike (sym (value-at k l) ∙ h k (omega (arith, inks-length)) shut)),
+    )
+  ]
 
   -- and otherwise it reports the lowest index, not open, at which they differ
   pub check-differs : (k : ℕ) → checkCall s r cells .answer ≡ differ k
@@ -77,22 +75,17 @@ module _ (s r : List ℕ) (net : Net) (t : Table) (reads-net : readNet s ≡ acc
       × (inkIn (t .inks) k ≡ t .header .levels → ⊥)
       × (value (net .header .levels) (net .header .inputs) (net .gates) k ≡ inkIn (t .inks) k → ⊥)
       × ((p : ℕ) → p < k → AgreeThere p)
-  check-differs k d = go (comparison (t .header .levels) (tableOfNet net .inks) (t .inks))
-    where
-      go : Compared (t .header .levels) (tableOfNet net .inks) (t .inks)
-          → (k < t .header .levels ^ t .header .inputs)
-          × (inkIn (t .inks) k ≡ t .header .levels → ⊥)
-          × (value (net .header .levels) (net .header .inputs) (net .gates) k ≡ inkIn (t .inks) k → ⊥)
-          × ((p : ℕ) → p < k → AgreeThere p)
-      go (all-agree e h) = absurd (agree-differ k (sym e ∙ sym answer-is ∙ d))
-      go (first-differs j e l shut unlike earlier) =
-          let same : j ≡ k = differ-same j k (sym e ∙ sym answer-is ∙ d) in (
-            omega (arith, inks-length),
-            subst (λ (i : ℕ). inkIn (t .inks) i ≡ t .header .levels → ⊥) same shut,
-            subst (λ (i : ℕ). value (net .header .levels) (net .header .inputs) (net .gates) i ≡ inkIn (t .inks) i → ⊥) same
-                (λ q. unlike (sym (value-at j l) ∙ q)),
-            λ p b shut. let c : p < j = omega arith in value-at p (omega arith) ∙ earlier p c shut,
-          )
+  check-differs k d = elim (comparison (t .header .levels) (tableOfNet net .inks) (t .inks)) [
+    | all-agree e h ↦ absurd (agree-differ k (sym e ∙ sym answer-is ∙ d))
+    | first-differs j e l shut unlike earlier ↦
+        let same : j ≡ k = differ-same j k (sym e ∙ sym answer-is ∙ d) in (
+          omega (arith, inks-length),
+          subst (λ (i : ℕ). inkIn (t .inks) i ≡ t .header .levels → ⊥) same shut,
+          subst (λ (i : ℕ). value (net .header .levels) (net .header .inputs) (net .gates) i ≡ inkIn (t .inks) i → ⊥) same
+              (λ q. unlike (sym (value-at j l) ∙ q)),
+          λ p b shut. let c : p < j = omega arith in value-at p (omega arith) ∙ earlier p c shut,
+        )
+  ]
 
 -- What a yes of the check means: two accepted sheets with the same levels, inputs and names, a cells buffer of sufficient length, and
 -- agreement on every assignment that is not open.
@@ -174,11 +167,9 @@ module _ (s : List ℕ) (net : Net) (reads : readNet s ≡ accepted net) where
   -- .. and it writes nothing else
   writes-only : (output sheet : List ℕ) → tableSheetOf (writeTableCall s output) ≡ accepted sheet → printedTable (tableOfNet net) ≡ sheet
   unfolding sheetIn
-  writes-only output sheet e = go (decLe (length (printedTable (tableOfNet net))) (length output))
-    where
-      go : Dec (length (printedTable (tableOfNet net)) ≤ length output) → printedTable (tableOfNet net) ≡ sheet
-      go (yes long) = accepted-inj _ sheet (sym (writes-table output long) ∙ e)
-      go (no short) = absurd (not-refused sheet 15 _ (sym e ∙ ap tableSheetOf (table-15 s output net reads (lt-of-not-le short))))
+  writes-only output sheet e = by-cases (decLe (length (printedTable (tableOfNet net))) (length output))
+      (λ long. accepted-inj _ sheet (sym (writes-table output long) ∙ e))
+      (λ short. absurd (not-refused sheet 15 _ (sym e ∙ ap tableSheetOf (table-15 s output net reads (lt-of-not-le short)))))
 
   -- Whatever the output's length, a sheet that table writing leaves is accepted, with the net's table, ..
   pub written-accepted : (output sheet : List ℕ) → tableSheetOf (writeTableCall s output) ≡ accepted sheet → readTable sheet ≡ accepted (tableOfNet net)

@@ -1,15 +1,15 @@
 -- What the result of the multiplicity call means: the fewest values that a wire in place of the group can carry.
 -- Assumes nothing.
-use Rattle.laws.specs.Prelude.{ℕ, _<_, _≤_, _^_, _≡_, sym, refl, subst, _↔_, true, false, Bool, _||_, List, arith, eqb, leb, leb-false}
-use Rattle.rules.specs.Groups.Groups.{multiplicity}
+use Rattle.laws.specs.Prelude.{ℕ, _<_, _≤_, _^_, _≡_, sym, refl, subst, _↔_, true, false, Bool, _||_, List, arith, eqb, leb, leb-false, test-cases}
 use Rattle.rules.specs.Calls.Answers.{Answer, accepted, refused, inkIn, onward}
 use Rattle.rules.specs.Calls.OpenCells.{fullCells}
+use Rattle.rules.specs.Groups.Groups.{multiplicity}
 use Rattle.rules.specs.Calls.Multiplicity.{multiplicityCall}
 use Rattle.laws.specs.Calls.Answers.{accepted-inj, not-refused}
 use Rattle.laws.specs.Calls.OpenCells.{cells-sized}
 use Rattle.laws.specs.Numbers.Sizes.{sized}
 use Rattle.laws.specs.Lists.Tests.{or-false-iff}
-use Rattle.paper.specs.Decompositions.{SimpleBy, values-needed}
+use Rattle.demands.specs.Paper.Decompositions.{SimpleBy, values-needed}
 
 module _ (m n : ℕ) (cells : List ℕ) (g k : ℕ) where
   -- the table is F(g(X), Y) with g of j values exactly if j is at least the number returned
@@ -24,19 +24,16 @@ module _ (m n : ℕ) (cells : List ℕ) (g k : ℕ) where
       group : Bool → Answer ℕ
       group t = elim t [ true ↦ refused 11 0 | false ↦ accepted (multiplicity m n (inkIn cells) g) ]
 
-      tested : accepted tt ≡ fullCells m n cells → (t : Bool) → (eqb g 0 || leb (2 ^ n) g) ≡ t → group t ≡ accepted k
+      judged : (a : Answer (Unit {0})) → fullCells m n cells ≡ a → onward a (λ _. group (eqb g 0 || leb (2 ^ n) g)) ≡ accepted k
           → (multiplicity m n (inkIn cells) g ≡ k) × FewestValues
-      tested b true h e = absurd (not-refused k 11 0 (sym e))
-      tested b false h e =
-          let is : multiplicity m n (inkIn cells) g ≡ k = accepted-inj _ _ e in
-          let size = sized m n (cells-sized m n cells b .0) in
+      judged (accepted _) b e = test-cases (eqb g 0 || leb (2 ^ n) g)
+          (λ h. absurd (not-refused k 11 0 (sym (rw h at e))))
+          (λ h.
+          let is : multiplicity m n (inkIn cells) g ≡ k = accepted-inj _ _ (rw h at e) in
+          let size = sized m n (cells-sized m n cells (sym b) .0) in
           let below : g < 2 ^ n = leb-false (2 ^ n) g (or-false-iff (eqb g 0) (leb (2 ^ n) g) .0 h .1) in (
             is,
             λ j. subst (λ (c : ℕ). SimpleBy j m n (inkIn cells) g ↔ (c ≤ j)) is
                 (values-needed j m n (omega (arith, size .levels-least)) (inkIn cells) g below),
-          )
-
-      judged : (a : Answer (Unit {0})) → fullCells m n cells ≡ a → onward a (λ _. group (eqb g 0 || leb (2 ^ n) g)) ≡ accepted k
-          → (multiplicity m n (inkIn cells) g ≡ k) × FewestValues
-      judged (accepted _) b e = tested (sym b) (eqb g 0 || leb (2 ^ n) g) refl e
+          ))
       judged (refused number place) b e = absurd (not-refused k number place (sym e))

@@ -2,16 +2,16 @@
 -- Assumes nothing.
 use Rattle.laws.specs.Prelude.{ℕ, _<_, _≤_, _+_, _*_, _≡_, _∙_, sym, ap, refl, true, false, Bool, List, _++_, map, add-zero, mul-comm, arith, length, getD}
 use Rattle.laws.specs.Prelude.{drop, length-append, replicate, length-drop, List·getD-append, drop-append-seam, digits-lt}
-use lib.IntN.{ℤ, pos, _+ℤ_}
-use Rattle.rules.specs.Lists.{range, concatMap}
-use Rattle.rules.specs.Sheets.Sheets.{Net, Table}
-use Rattle.rules.specs.Sheets.SheetRules.{NetRules}
 use Rattle.rules.specs.Calls.Answers.{Answer, accepted, refused, written}
-use Rattle.rules.specs.Sheets.Reading.{readNet, tableOfNet}
 use Rattle.rules.specs.Calls.Settling.{settledNet, settleCall}
+use Rattle.rules.specs.Lists.{range, concatMap}
+use Rattle.rules.specs.Nets.Value.{valueWith}
+use Rattle.rules.specs.Sheets.Reading.{readNet, tableOfNet}
+use Rattle.rules.specs.Sheets.SheetRules.{NetRules}
+use Rattle.rules.specs.Sheets.Sheets.{Net, Table}
+use lib.IntN.{ℤ, pos, _+ℤ_}
 use Rattle.rules.specs.Calls.TableWriting.{Written}
 use Rattle.rules.specs.Calls.Glyphs.{across, down, levelAt, levelsRead, newCell, glyph, pictureFits, glyphJudged, glyphInto, glyphCall}
-use Rattle.rules.specs.Nets.Value.{valueWith}
 use Rattle.laws.specs.Calls.Answers.{not-refused}
 use Rattle.laws.specs.Numbers.Assignments.{indexOf, index-of-below}
 use Rattle.laws.specs.Lists.Concat.{concat-same, map-same}
@@ -70,11 +70,10 @@ glyphFrom t width height picture offsets = concatMap (λ y. map (λ x. cellFrom 
 
 -- the result of the call, from the verdict and the new picture
 abbrev judgedInto : Answer (Unit {0}) → ℕ → List ℕ → List ℕ → Written
-judgedInto judged count new output =
-    elim judged [
-      | refused number place ↦ record { answer = refused number place; output = output }
-      | accepted fits ↦ record { answer = accepted count; output = written output new }
-    ]
+judgedInto judged count new output = elim judged [
+  | refused number place ↦ record { answer = refused number place; output = output }
+  | accepted fits ↦ record { answer = accepted count; output = written output new }
+]
 
 -- everything the call does after reading the sheet, from a table
 abbrev intoFrom : Table → ℕ → ℕ → List ℕ → List ℤ → List ℕ → Written

@@ -4,13 +4,13 @@
 -- Assumes nothing.
 use Rattle.laws.specs.Prelude.{ℕ, _<_, _≤_, _+_, suc, zero, _≡_, _∙_, sym, ap, refl, ap₂, List, [], _∷_, _++_, zero-add, add-zero, suc-add, add-suc, arith}
 use Rattle.laws.specs.Prelude.{length, getD, lt-ltb, le-ltb}
-use Rattle.rules.specs.Lists.{range, concatMap}
-use Rattle.rules.specs.Text.{text}
-use Rattle.rules.specs.Sheets.Sheets.{Gate, Net}
-use Rattle.rules.specs.Sheets.Printed.{line, firstLines, printedGate, printedNet}
-use Rattle.rules.specs.Sheets.SheetRules.{NetRules}
 use Rattle.rules.specs.Calls.Answers.{Answer, accepted, refused, onward}
+use Rattle.rules.specs.Lists.{range, concatMap}
+use Rattle.rules.specs.Sheets.Printed.{line, firstLines, printedGate, printedNet}
 use Rattle.rules.specs.Sheets.Reading.{readNet}
+use Rattle.rules.specs.Sheets.SheetRules.{NetRules}
+use Rattle.rules.specs.Sheets.Sheets.{Gate, Net}
+use Rattle.rules.specs.Text.{text}
 use Rattle.rules.specs.Calls.Lister.{Turn, gateAt, noneLeft, turnOf, listing}
 use Rattle.laws.specs.Lists.Concat.{concat-append}
 use Rattle.readback.specs.Sheets.ReadBack.{net-accepted}

@@ -2,22 +2,22 @@
 -- some cell is open, at the lowest such index, provided everything judged before it passes; and it then leaves every buffer unchanged.
 -- Assumes nothing.
 use Rattle.laws.specs.Prelude.{ℕ, _<_, _≤_, _^_, _≡_, _∙_, sym, ap, refl, subst, _↔_, Iff·trans, true, false, Bool, true≢false, _||_, List, [], _∷_}
-use Rattle.laws.specs.Prelude.{lt-of-not-le, decLt, decLe, arith, eqb, ltb, leb, length, getD}
-use Rattle.rules.specs.Lists.{any}
-use Rattle.rules.specs.Sheets.Sheets.{Net, Table}
-use Rattle.rules.specs.Groups.Marks.{marksLength}
+use Rattle.laws.specs.Prelude.{lt-of-not-le, decLt, decLe, arith, eqb, ltb, leb, length, getD, answer-cases}
 use Rattle.rules.specs.Calls.Answers.{Answer, accepted, refused, Named, netNamed, tableNamed, neither}
-use Rattle.rules.specs.Sheets.Reading.{readNet, readTable}
-use Rattle.rules.specs.Calls.BareCells.{bareCells}
+use Rattle.rules.specs.Calls.Checking.{sameHeader}
+use Rattle.rules.specs.Calls.FamilyCalls.{countOfTable, familyCountCall, numberedInto, afterCount, familyTreeCall}
+use Rattle.rules.specs.Calls.Keeping.{Keeping, turnedAway, KeptWiring, keptNet, roomyBefore, leavesOut, keptInto, keepCall}
 use Rattle.rules.specs.Calls.OpenCells.{full, fullCells, fullTable, readFull}
-use Rattle.rules.specs.Calls.Multiplicity.{multiplicityCall}
-use Rattle.rules.specs.Calls.Marking.{Marked, markingCall}
 use Rattle.rules.specs.Calls.Settling.{Made, settledNet, makeCall}
 use Rattle.rules.specs.Calls.ShallowSettling.{makeShallowCall}
-use Rattle.rules.specs.Calls.FamilyCalls.{countOfTable, familyCountCall, numberedInto, afterCount, familyTreeCall}
-use Rattle.rules.specs.Calls.Checking.{sameHeader}
+use Rattle.rules.specs.Groups.Marks.{marksLength}
+use Rattle.rules.specs.Lists.{any}
 use Rattle.rules.specs.Sheets.Printed.{printedNet}
-use Rattle.rules.specs.Calls.Keeping.{Keeping, turnedAway, KeptWiring, keptNet, roomyBefore, leavesOut, keptInto, keepCall}
+use Rattle.rules.specs.Sheets.Reading.{readNet, readTable}
+use Rattle.rules.specs.Sheets.Sheets.{Net, Table}
+use Rattle.rules.specs.Calls.BareCells.{bareCells}
+use Rattle.rules.specs.Calls.Multiplicity.{multiplicityCall}
+use Rattle.rules.specs.Calls.Marking.{Marked, markingCall}
 use Rattle.rules.specs.Calls.Jobs.{Job, emptyJob, Opened, openJob, mayFinish}
 use Rattle.laws.specs.Calls.Answers.{not-refused}
 use Rattle.laws.specs.Lists.Distinct.{In}
@@ -31,6 +31,7 @@ use Rattle.laws.specs.Calls.Jobs.{open-refused, open-accepted, may-refused}
 use Rattle.laws.specs.Calls.Multiplicity.{groupAnswer, multiplicity-refused, multiplicity-judged}
 use Rattle.laws.specs.Calls.Keeping.{keep-net-refused, keep-table-refused, keep-accepted, keep-12, keep-27, keep-13, keep-23-0, keep-23, keep-15, keep-written}
 use Rattle.readback.specs.Readers.Numbers.{netNumbers, tableNumbers, net-refusal, table-refusal}
+use Rattle.demands.specs.Settling.AnyStore.{marking-bare}
 use Rattle.demands.specs.Numbers.Numbers.{Gives, accepts, bare-numbers, not-given, refuses}
 use Rattle.demands.specs.Numbers.SettlingNumbers.{sheet-numbers, in-room-numbers, into-numbers}
 use Rattle.demands.specs.Shallow.ShallowRefusals.{make-shallow-refuses}
@@ -82,17 +83,22 @@ sheet-exactly s k = (λ e. told e (full-read s), λ o. read-27 s (o .table) (o .
 
 -- ---- the calls on a table sheet
 
--- a call that refuses what needs a full table, and refuses the rest with other numbers
+-- an answer that passes every refusal of another on, and refuses the rest with other numbers
+passed-on : {A B : Type 0} (k : ℕ) (first : Answer B) (answer : Answer A) → ((number place : ℕ) → first ≡ refused number place → answer ≡ refused number place)
+    → ((b : B) → first ≡ accepted b → answer ≡ refused 27 k → ⊥) → (answer ≡ refused 27 k) ↔ (first ≡ refused 27 k)
+passed-on {A} k first answer back others = (
+  λ e. answer-cases first (λ number place d. same number place d (sym (back number place d) ∙ e))
+      (λ b d. absurd (others b d e)),
+  back 27 k,
+)
+  where
+    same : (number place : ℕ) → first ≡ refused number place → _≡_ {A = Answer A} (refused number place) (refused 27 k) → first ≡ refused 27 k
+    same number place d e = let n : number ≡ 27 = cc in let p : place ≡ k = cc in cc
+
+-- a call that refuses what needs a full table
 exactly : {A : Type 0} (s : List ℕ) (k : ℕ) (answer : Answer A) → ((number place : ℕ) → readFull s ≡ refused number place → answer ≡ refused number place)
     → ((t : Table) → readFull s ≡ accepted t → answer ≡ refused 27 k → ⊥) → (answer ≡ refused 27 k) ↔ OpenSheet s k
-exactly s k answer back others = (λ e. told e (readFull s) refl, λ o. back 27 k (sheet-exactly s k .1 o))
-  where
-    told : answer ≡ refused 27 k → (a : Answer Table) → readFull s ≡ a → OpenSheet s k
-    told e (refused number place) d =
-        let is = sym (back number place d) ∙ e in
-        let same : _≡_ {A = Answer Table} (refused number place) (refused 27 k) = let n : number ≡ 27 = cc in let p : place ≡ k = cc in cc in
-        sheet-exactly s k .0 (d ∙ same)
-    told e (accepted t) d = absurd (others t d e)
+exactly s k answer back others = Iff·trans (passed-on k (readFull s) answer back others) (sheet-exactly s k)
 
 module _ (s : List ℕ) (k : ℕ) where
   module _ (cells marks output : List ℕ) where
@@ -238,8 +244,7 @@ module _ (s r : List ℕ) (k : ℕ) (cells output : List ℕ) where
                 reads-net = d;
                 reads-table = f;
                 header = header-same (net .header) (t .header) h;
-                lowest =
-                    full-exactly _ _ k .0 back;
+                lowest = full-exactly _ _ k .0 back;
               }
           headers true h (accepted _) o = absurd (past named net t h o (sym (answered on) ∙ e))
 
@@ -263,14 +268,7 @@ module _ (m n : ℕ) (cells : List ℕ) (k : ℕ) where
   -- a call that takes full cells, and refuses the rest with other numbers
   exactly-cells : {A : Type 0} (answer : Answer A) → ((number place : ℕ) → fullCells m n cells ≡ refused number place → answer ≡ refused number place)
       → (fullCells m n cells ≡ accepted tt → answer ≡ refused 27 k → ⊥) → (answer ≡ refused 27 k) ↔ OpenCells m n cells k
-  exactly-cells answer back others = (λ e. told e (fullCells m n cells) refl, λ o. back 27 k (cells-exactly .1 o))
-    where
-      told : answer ≡ refused 27 k → (a : Answer (Unit {0})) → fullCells m n cells ≡ a → OpenCells m n cells k
-      told e (accepted tt) d = absurd (others d e)
-      told e (refused number place) d =
-          let is = sym (back number place d) ∙ e in
-          let same : _≡_ {A = Answer (Unit {0})} (refused number place) (refused 27 k) = let a : number ≡ 27 = cc in let b : place ≡ k = cc in cc in
-          cells-exactly .0 (d ∙ same)
+  exactly-cells answer back others = Iff·trans (passed-on k (fullCells m n cells) answer back (λ _. others)) cells-exactly
 
   -- multiplicity, ..
   pub multiplicity-27 : (g : ℕ) → (multiplicityCall m n cells g ≡ refused 27 k) ↔ OpenCells m n cells k
@@ -284,14 +282,10 @@ module _ (m n : ℕ) (cells : List ℕ) (k : ℕ) where
 
   -- .. and marking, which leaves its buffer unchanged
   module _ (marks : List ℕ) where
-    by-refusal : (number place : ℕ) → fullCells m n cells ≡ refused number place
-        → markingCall m n cells marks ≡ record { answer = refused number place; marks = marks }
-    unfolding markingCall
-    by-refusal number place e = rw (e, markingCall)
-
     pub marking-27 : (markingCall m n cells marks .answer ≡ refused 27 k) ↔ OpenCells m n cells k
     marking-27 =
-        exactly-cells (markingCall m n cells marks .answer) (λ number place e. ap (λ (made : Marked). made .answer) (by-refusal number place e)) marked
+        exactly-cells (markingCall m n cells marks .answer)
+        (λ number place e. ap (λ (made : Marked). made .answer) (marking-bare m n cells marks number place e)) marked
       where
         marked : fullCells m n cells ≡ accepted tt → markingCall m n cells marks .answer ≡ refused 27 k → ⊥
         marked d e =
@@ -301,7 +295,7 @@ module _ (m n : ℕ) (cells : List ℕ) (k : ℕ) where
             (accepts (14 ∷ []) _)) 27 k refl (rw (d, markingCall) at e)
 
     pub marking-27-leaves : OpenCells m n cells k → markingCall m n cells marks ≡ record { answer = refused 27 k; marks = marks }
-    marking-27-leaves o = by-refusal 27 k (cells-exactly .1 o)
+    marking-27-leaves o = marking-bare m n cells marks 27 k (cells-exactly .1 o)
 
 -- a job is finished only on a full table: 27 comes after 9 and 10, and before 22
 pub finish-27 : (job : Job) (k : ℕ) → OpenCells (job .table .header .levels) (job .table .header .inputs) (job .table .inks) k → mayFinish job ≡ refused 27 k

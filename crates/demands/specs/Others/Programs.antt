@@ -3,21 +3,21 @@
 -- needs, so what a program prints is the settled sheet, or the refusal of its sheet or of its table.
 -- Assumes nothing.
 use Rattle.laws.specs.Prelude.{ℕ, _≤_, _≡_, sym, ap, List, le-of-eq, length, take, length-replicate}
-use Rattle.rules.specs.Limits.{mostInputs, mostCells, mostSettled, mostRead}
-use Rattle.rules.specs.Sheets.Sheets.{Net, Table}
-use Rattle.rules.specs.Sheets.Printed.{printedNet}
-use Rattle.rules.specs.Groups.Marks.{marksLength, noTreePlace}
 use Rattle.rules.specs.Calls.Answers.{Answer, accepted, refused}
-use Rattle.rules.specs.Calls.Settling.{Made, settledNet, settleCall, makeCall}
-use Rattle.rules.specs.Sheets.Reading.{readNet, tableOfNet}
 use Rattle.rules.specs.Calls.OpenCells.{readFull}
+use Rattle.rules.specs.Calls.Settling.{Made, settledNet, settleCall, makeCall}
+use Rattle.rules.specs.Groups.Marks.{marksLength, noTreePlace}
+use Rattle.rules.specs.Limits.{mostInputs, mostCells, mostSettled, mostRead}
+use Rattle.rules.specs.Sheets.Printed.{printedNet}
+use Rattle.rules.specs.Sheets.Reading.{readNet, tableOfNet}
+use Rattle.rules.specs.Sheets.Sheets.{Net, Table}
 use Rattle.rules.specs.Calls.Programs.{refusalLines, programOutput, zeros, settleProgram, makeProgram}
 use Rattle.laws.specs.Calls.Settling.{marksOfTable, settle-refused, make-refused}
 use Rattle.readback.specs.Readers.Numbers.{netNumbers}
 use Rattle.demands.specs.Settling.Settles.{sheetIn, sheetOf, settles}
 use Rattle.laws.specs.Calls.Answers.{accepted-inj, not-refused}
 use Rattle.demands.specs.Numbers.Numbers.{Gives}
-use Rattle.demands.specs.Settling.Makes.{HasTree, Making, no-tree, some-tree}
+use Rattle.demands.specs.Settling.Makes.{HasTree, no-tree, some-tree}
 use Rattle.demands.specs.Sheets.Lengths.{mostMarks, Ample, tableOrTree, settle-ample, make-ample, settle-ample-numbers, make-ample-numbers}
 
 -- ---- what is printed for a call
@@ -69,21 +69,19 @@ module _ (input : List ℕ) where
   -- the making program prints the settled sheet of an accepted sheet of a full table with a tree, ..
   pub program-makes : (t : Table) → readFull (take mostRead input) ≡ accepted t → HasTree t → makeProgram input ≡ printedNet (settledNet t)
   unfolding makeProgram
-  program-makes t reads tree = go (make-ample (take mostRead input) _ _ _ zeros-ample t reads)
-    where
-      go : Making t (makeRun input) → printed (makeRun input) ≡ printedNet (settledNet t)
-      go (no-tree none answer) = absurd (none tree)
-      go (some-tree has sheet) = prints-sheet (makeRun input) _ sheet
+  program-makes t reads tree = elim (make-ample (take mostRead input) _ _ _ zeros-ample t reads) [
+    | no-tree none answer ↦ absurd (none tree)
+    | some-tree has sheet ↦ prints-sheet (makeRun input) _ sheet
+  ]
 
   -- .. 16 and its place if there is no tree, ..
   pub program-no-tree : (t : Table) → readFull (take mostRead input) ≡ accepted t → (HasTree t → ⊥)
       → makeProgram input ≡ refusalLines 16 (noTreePlace (t .header .inputs) (marksOfTable t))
   unfolding makeProgram
-  program-no-tree t reads none = go (make-ample (take mostRead input) _ _ _ zeros-ample t reads)
-    where
-      go : Making t (makeRun input) → printed (makeRun input) ≡ refusalLines 16 (noTreePlace (t .header .inputs) (marksOfTable t))
-      go (no-tree _ answer) = prints-refusal (makeRun input) 16 _ answer
-      go (some-tree has sheet) = absurd (none has)
+  program-no-tree t reads none = elim (make-ample (take mostRead input) _ _ _ zeros-ample t reads) [
+    | no-tree _ answer ↦ prints-refusal (makeRun input) 16 _ answer
+    | some-tree has sheet ↦ absurd (none has)
+  ]
 
   -- .. and the refusal of any other sheet
   pub program-make-refused : (number place : ℕ) → readFull (take mostRead input) ≡ refused number place → makeProgram input ≡ refusalLines number place

@@ -1,14 +1,14 @@
 -- Document 02, K8, on tidying: "A strict sheet comes back unchanged, and a tidied sheet has, at each assignment, the ink of the row that named it.
 -- Two accepted loose sheets with the same first three lines, spaces aside, tidy to equal bytes exactly when they give every assignment the same ink."
 -- Assumes nothing.
-use Rattle.laws.specs.Prelude.{ℕ, _<_, _≤_, _^_, _≡_, _∙_, sym, ap, refl, subst, subst⁻¹, _↔_, List, [], _∷_, _++_, map, zero-add, lt-of-not-le, decLe}
-use Rattle.laws.specs.Prelude.{arith, ltb, length, getD, take, length-append, take-at}
-use Rattle.rules.specs.Text.{text, decimal}
-use Rattle.rules.specs.Lists.{range}
-use Rattle.rules.specs.Sheets.Sheets.{Header, Table, levelsAt}
-use Rattle.rules.specs.Sheets.Printed.{printedTable}
+use Rattle.laws.specs.Prelude.{ℕ, _<_, _≤_, _^_, _≡_, _∙_, sym, ap, refl, subst, subst⁻¹, _↔_, List, [], _∷_, _++_, map, zero-add, lt-of-not-le, decLe, arith}
+use Rattle.laws.specs.Prelude.{ltb, length, getD, take, length-append, take-at, by-cases}
 use Rattle.rules.specs.Calls.Answers.{Answer, accepted, refused, written}
+use Rattle.rules.specs.Lists.{range}
+use Rattle.rules.specs.Sheets.Printed.{printedTable}
 use Rattle.rules.specs.Sheets.Reading.{readTable}
+use Rattle.rules.specs.Sheets.Sheets.{Header, Table, levelsAt}
+use Rattle.rules.specs.Text.{text, decimal}
 use Rattle.rules.specs.Sheets.LooseSheet.{Row, LooseTable, readLoose, inkNamed, tableOfLoose, looseFields, LooseRules}
 use Rattle.rules.specs.Calls.Tidying.{Tidied, tidiedSheet, tidiedInto, tidyCall}
 use Rattle.laws.specs.Calls.Answers.{accepted-inj, not-refused, written-front}
@@ -43,11 +43,9 @@ module _ (output : List ℕ) where
   none-within number place cells k e = absurd (not-refused k number place (sym e))
 
   sheet-within : (sheet cells : List ℕ) → Within (tidiedSheet sheet cells output)
-  sheet-within sheet cells = go (decLe (length sheet) (length output))
-    where
-      go : Dec (length sheet ≤ length output) → Within (tidiedSheet sheet cells output)
-      go (yes h) = subst⁻¹ Within (tidied-written sheet cells output h) (λ k e. let same : length sheet ≡ k = cc in omega arith)
-      go (no h) = subst⁻¹ Within (tidied-15 sheet cells output (lt-of-not-le h)) (none-within 15 _ cells)
+  sheet-within sheet cells = by-cases (decLe (length sheet) (length output))
+      (λ h. subst⁻¹ Within (tidied-written sheet cells output h) (λ k e. let same : length sheet ≡ k = cc in omega arith))
+      (λ h. subst⁻¹ Within (tidied-15 sheet cells output (lt-of-not-le h)) (none-within 15 _ cells))
 
   into-within : (t : Table) (cells : List ℕ) → Within (tidiedInto t cells output)
   unfolding tidiedInto
@@ -84,8 +82,7 @@ module _ (s : List ℕ) (t : LooseTable) (reads : readLoose s ≡ accepted t) wh
       ≡ record {
         answer = accepted (length (printedTable (tableOfLoose t)));
         cells = written cells (tableOfLoose t .inks);
-        output =
-            written output (printedTable (tableOfLoose t));
+        output = written output (printedTable (tableOfLoose t));
       }
   tidies cells output long =
       tidy-accepted s cells output t reads

@@ -2,12 +2,12 @@
 -- every number sheets that differ only by the renaming in the last table.
 -- Assumes nothing.
 use Rattle.laws.specs.Prelude.{ℕ, _<_, _≤_, _^_, _≡_, _∙_, ap, subst, List, decLt, arith, length, take}
-use Rattle.rules.specs.Sheets.Sheets.{Table}
-use Rattle.rules.specs.Sheets.Printed.{printedNet}
-use Rattle.rules.specs.Groups.Marks.{marksLength, storedMarks}
 use Rattle.rules.specs.Calls.Answers.{accepted, inkIn}
-use Rattle.rules.specs.Calls.Settling.{settledNet}
 use Rattle.rules.specs.Calls.FamilyCalls.{Counted, countOfTable, familyNet, familyCountCall, familyTreeCall, afterCount}
+use Rattle.rules.specs.Calls.Settling.{settledNet}
+use Rattle.rules.specs.Groups.Marks.{marksLength, storedMarks}
+use Rattle.rules.specs.Sheets.Printed.{printedNet}
+use Rattle.rules.specs.Sheets.Sheets.{Table}
 use Rattle.laws.specs.Calls.Settling.{marksOfTable, into-marked}
 use Rattle.laws.specs.Calls.FamilyCalls.{counted-marked, family-count-accepted, count-17, count-tree, family-tree-accepted}
 use Rattle.trees.specs.Trees.NetTables.{inputs-several}
@@ -65,7 +65,25 @@ module _ (r : ℕ → ℕ) (s other : List ℕ) (both : RenamedTables r s other)
   pub numbers-renamed : (number : ℕ) (cells marks output cells' marks' output' : List ℕ) → Enough settledNet t cells marks output
       → Enough settledNet (both .renamed) cells' marks' output'
       → AlikeMade r n (familyTreeCall s number cells marks output) (familyTreeCall other number cells' marks' output')
-  numbers-renamed number cells marks output cells' marks' output' enough enough-other = go (decLt number (countOfTable t))
+  numbers-renamed number cells marks output cells' marks' output' enough enough-other = elim (decLt number (countOfTable t)) [
+    | no large ↦
+        rw (
+          judged ∙ count-17 number t cells marks output (omega arith),
+          judged' ∙ count-17 number u cells' marks' output' (omega (arith, same-count)),
+          ← (same-marks r s other both),
+        )
+        (alike-refused r n (storedMarks (marksOfTable t)) (stored-count r s other both) marks marks' 17 number _ _ output output')
+    | yes less ↦
+        let less' : number < countOfTable u = omega (arith, same-count) in
+        rw (
+          judged ∙ count-tree number t cells marks output less,
+          judged' ∙ count-tree number u cells' marks' output' less',
+          ← (same-marks r s other both),
+        )
+        (alike-written r n (storedMarks (marksOfTable t)) (stored-count r s other both) marks marks' _ _ _ _ output output' (number-sheets number less)
+        (number-fits t (kept-one r s other both) number less cells marks output enough)
+        (number-fits u (kept-other r s other both) number less' cells' marks' output' enough'))
+  ]
     where
       enough' : Enough settledNet u cells' marks' output'
       enough' = subst (λ (v : Table). Enough settledNet v cells' marks' output') (is-renamed r s other both) enough-other
@@ -77,22 +95,3 @@ module _ (r : ℕ → ℕ) (s other : List ℕ) (both : RenamedTables r s other)
       judged' =
           family-tree-accepted other number cells' marks' output' u (reads-renamed r s other both)
           ∙ into-marked u cells' marks' output' _ (enough' .cells-fit) (enough' .marks-fit)
-
-      go : Dec (number < countOfTable t) → AlikeMade r n (familyTreeCall s number cells marks output) (familyTreeCall other number cells' marks' output')
-      go (no large) =
-          rw (
-            judged ∙ count-17 number t cells marks output (omega arith),
-            judged' ∙ count-17 number u cells' marks' output' (omega (arith, same-count)),
-            ← (same-marks r s other both),
-          )
-          (alike-refused r n (storedMarks (marksOfTable t)) (stored-count r s other both) marks marks' 17 number _ _ output output')
-      go (yes less) =
-          let less' : number < countOfTable u = omega (arith, same-count) in
-          rw (
-            judged ∙ count-tree number t cells marks output less,
-            judged' ∙ count-tree number u cells' marks' output' less',
-            ← (same-marks r s other both),
-          )
-          (alike-written r n (storedMarks (marksOfTable t)) (stored-count r s other both) marks marks' _ _ _ _ output output' (number-sheets number less)
-          (number-fits t (kept-one r s other both) number less cells marks output enough)
-          (number-fits u (kept-other r s other both) number less' cells' marks' output' enough'))

@@ -3,16 +3,16 @@
 -- changed agree except for the last gate.
 -- Assumes nothing.
 use Rattle.laws.specs.Prelude.{ℕ, _<_, _≤_, _^_, suc, _≡_, _∙_, sym, ap, refl, subst, subst⁻¹, _≢_, true, false, Bool, List, lt-of-not-le, decLe, length}
-use Rattle.laws.specs.Prelude.{take}
-use Rattle.rules.specs.Sheets.Sheets.{Header, Net, Table}
-use Rattle.rules.specs.Sheets.Printed.{printedNet}
-use Rattle.rules.specs.Groups.Groups.{member}
-use Rattle.rules.specs.Sheets.SheetRules.{NetRules}
-use Rattle.rules.specs.Calls.Answers.{Answer, accepted, refused, Named, netNamed, neither, inkIn, written}
-use Rattle.rules.specs.Sheets.Reading.{readNet, readTable}
-use Rattle.rules.specs.Calls.OpenCells.{fullTable}
+use Rattle.laws.specs.Prelude.{take, test-cases, answer-cases}
+use Rattle.rules.specs.Calls.Answers.{accepted, Named, netNamed, neither, inkIn, written}
 use Rattle.rules.specs.Calls.Checking.{sameHeader}
 use Rattle.rules.specs.Calls.Keeping.{rewritten, turnedAway, KeptWiring, keptNet, roomyBefore, leavesOut, changedGates, keepCall, keptInto}
+use Rattle.rules.specs.Calls.OpenCells.{fullTable}
+use Rattle.rules.specs.Groups.Groups.{member}
+use Rattle.rules.specs.Sheets.Printed.{printedNet}
+use Rattle.rules.specs.Sheets.Reading.{readNet, readTable}
+use Rattle.rules.specs.Sheets.SheetRules.{NetRules}
+use Rattle.rules.specs.Sheets.Sheets.{Header, Net, Table}
 use Rattle.laws.specs.Calls.Answers.{written-front}
 use Rattle.laws.specs.Calls.OpenCells.{read-accepted}
 use Rattle.laws.specs.Calls.Keeping.{keep-net-refused, keep-accepted, keep-12, keep-23-0, keep-23, keep-written}
@@ -61,11 +61,7 @@ module _ (r : ℕ → ℕ) (s other : List ℕ) (both : RenamedTables r s other)
   -- ---- a net of the tables' levels, inputs and names
 
   module _ (q : List ℕ) (net : Net) (reads : readNet q ≡ accepted net) (header : net .header ≡ t .header) where
-    abbrev m : ℕ
-    m = net .header .levels
-
-    abbrev n : ℕ
-    n = net .header .inputs
+    open Header (net .header) using (levels as m, inputs as n)
 
     kept-net : NetRules net
     kept-net = net-accepted q net reads .1
@@ -143,25 +139,6 @@ module _ (r : ℕ → ℕ) (s other : List ℕ) (both : RenamedTables r s other)
       unfolding past past'
       kept-alike = go (leavesOut net t) refl (decLe (length (net .gates)) (roomyBefore net t))
         where
-          made : (takes : leavesOut net t ≡ false) (roomy : length (net .gates) ≤ roomyBefore net t)
-              → AlikeKept r q (keepCall q s cells output) (keepCall q other cells' output')
-          made takes roomy =
-              let nets = sheets takes roomy in
-              let (takes', roomy') = room' takes roomy in
-              let as-long = renamed-long r _ _ nets in
-              rw (
-                judged ∙ keep-written net t cells output alike (read-one .1) long takes roomy (rw (kept-as-long q s cells past (room takes roomy)) fits),
-                judged' ∙ keep-written net u cells' output' alike (read-other .1) long' takes' roomy'
-                    (rw (kept-as-long q other cells' past' (room' takes roomy)) fits'),
-              )
-              (both-kept (length (printedNet (keptNet net t))) _ _ net refl
-              (ap (λ (k : ℕ). rewritten k (changedGates (net .gates) (keptNet net u .gates))) (sym as-long))
-              (subst⁻¹ (λ (b : List ℕ). RenamedNets r b (take (length (printedNet (keptNet net t))) (written output' (printedNet (keptNet net u)))))
-              (written-front output (printedNet (keptNet net t)))
-              (subst⁻¹ (RenamedNets r (printedNet (keptNet net t)))
-              (ap (λ (k : ℕ). take k (written output' (printedNet (keptNet net u)))) as-long ∙ written-front output' (printedNet (keptNet net u))) nets))
-              reads (sets takes roomy))
-
           go : (out : Bool) → leavesOut net t ≡ out → Dec (length (net .gates) ≤ roomyBefore net t)
               → AlikeKept r q (keepCall q s cells output) (keepCall q other cells' output')
           go true out _ =
@@ -178,26 +155,37 @@ module _ (r : ℕ → ℕ) (s other : List ℕ) (both : RenamedTables r s other)
                     (subst (λ (k : ℕ). k < length (net .gates)) same-roomy (lt-of-not-le crowded)),
               )
               (both-refused neither 23 (suc (roomyBefore net t)) refl (ap (λ (k : ℕ). turnedAway neither 23 (suc k)) (sym same-roomy)))
-          go false takes (yes roomy) = made takes roomy
+          go false takes (yes roomy) =
+              let nets = sheets takes roomy in
+              let (takes', roomy') = room' takes roomy in
+              let as-long = renamed-long r _ _ nets in
+              rw (
+                judged ∙ keep-written net t cells output alike (read-one .1) long takes roomy (rw (kept-as-long q s cells past (room takes roomy)) fits),
+                judged' ∙ keep-written net u cells' output' alike (read-other .1) long' takes' roomy'
+                    (rw (kept-as-long q other cells' past' (room' takes roomy)) fits'),
+              )
+              (both-kept (length (printedNet (keptNet net t))) _ _ net refl
+              (ap (λ (k : ℕ). rewritten k (changedGates (net .gates) (keptNet net u .gates))) (sym as-long))
+              (subst⁻¹ (λ (b : List ℕ). RenamedNets r b (take (length (printedNet (keptNet net t))) (written output' (printedNet (keptNet net u)))))
+              (written-front output (printedNet (keptNet net t)))
+              (subst⁻¹ (RenamedNets r (printedNet (keptNet net t)))
+              (ap (λ (k : ℕ). take k (written output' (printedNet (keptNet net u)))) as-long ∙ written-front output' (printedNet (keptNet net u))) nets))
+              reads (sets takes roomy))
 
   -- ---- any net sheet
 
   -- "given long enough buffers": for the cells, and for as many bytes as the net sheet has
   pub keeps-alike : (q cells output cells' output' : List ℕ) → need ≤ length cells → need ≤ length cells' → length q ≤ length output → length q ≤ length output'
       → AlikeKept r q (keepCall q s cells output) (keepCall q other cells' output')
-  keeps-alike q cells output cells' output' cells-fit cells-fit' fits fits' = go (readNet q) refl
-    where
-      go : (a : Answer Net) → readNet q ≡ a → AlikeKept r q (keepCall q s cells output) (keepCall q other cells' output')
-      go (refused number place) e =
-          rw (keep-net-refused q s cells output number place e, keep-net-refused q other cells' output' number place e)
-          (both-refused netNamed number place refl refl)
-      go (accepted net) e = of (sameHeader (net .header) (t .header)) refl
-        where
-          of : (b : Bool) → sameHeader (net .header) (t .header) ≡ b → AlikeKept r q (keepCall q s cells output) (keepCall q other cells' output')
-          of true h = kept-alike q net e (header-same (net .header) (t .header) h) cells output cells' output' cells-fit cells-fit' fits fits'
-          of false h =
-              rw (
-                keep-accepted q s cells output net e t (read-one .0) ∙ keep-12 net t cells output h,
-                keep-accepted q other cells' output' net e u (read-other .0) ∙ keep-12 net u cells' output' h,
-              )
-              (both-refused neither 12 0 refl refl)
+  keeps-alike q cells output cells' output' cells-fit cells-fit' fits fits' = answer-cases (readNet q)
+      (λ number place e.
+      rw (keep-net-refused q s cells output number place e, keep-net-refused q other cells' output' number place e)
+      (both-refused netNamed number place refl refl))
+      (λ net e. test-cases (sameHeader (net .header) (t .header))
+      (λ h. kept-alike q net e (header-same (net .header) (t .header) h) cells output cells' output' cells-fit cells-fit' fits fits')
+      (λ h.
+      rw (
+        keep-accepted q s cells output net e t (read-one .0) ∙ keep-12 net t cells output h,
+        keep-accepted q other cells' output' net e u (read-other .0) ∙ keep-12 net u cells' output' h,
+      )
+      (both-refused neither 12 0 refl refl)))

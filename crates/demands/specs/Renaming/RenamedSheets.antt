@@ -3,12 +3,12 @@
 -- that renaming at each digit that some assignment reaches." Stated for the sheets' bytes.
 -- Assumes nothing.
 use Rattle.laws.specs.Prelude.{ℕ, _<_, _^_, _≡_, _∙_, sym, ap, refl, subst⁻¹, List, map, length, length-append, length-map}
-use Rattle.rules.specs.Text.{digitByte}
-use Rattle.rules.specs.Sheets.Sheets.{Header, Gate, Net, Table}
-use Rattle.rules.specs.Sheets.Printed.{printedNet}
 use Rattle.rules.specs.Calls.Answers.{accepted, inkIn}
-use Rattle.rules.specs.Sheets.Reading.{readNet}
 use Rattle.rules.specs.Calls.OpenCells.{readFull}
+use Rattle.rules.specs.Sheets.Printed.{printedNet}
+use Rattle.rules.specs.Sheets.Reading.{readNet}
+use Rattle.rules.specs.Sheets.Sheets.{Header, Gate, Net, Table}
+use Rattle.rules.specs.Text.{digitByte}
 use Rattle.laws.specs.Lists.Places.{map-at}
 use Rattle.laws.specs.Calls.Settling.{marksOfTable}
 use Rattle.trees.specs.Trees.NetTables.{levels-pos}
@@ -78,12 +78,11 @@ module _ (r : ℕ → ℕ) (s other : List ℕ) (both : RenamedTables r s other)
   renamed-inks-below p h = kept-one .below p (subst⁻¹ (λ (k : ℕ). p < k) (kept-one .count) h)
 
   pub inks-renamed : Renamed m n r (inkIn (t .inks)) (inkIn (u .inks))
-  inks-renamed =
-      record {
-        levels = both .levels;
-        one-to-one = both .one-to-one;
-        inks = λ p h. map-at r (t .inks) p 0 0 (subst⁻¹ (λ (k : ℕ). p < k) (kept-one .count) h);
-      }
+  inks-renamed = record {
+    levels = both .levels;
+    one-to-one = both .one-to-one;
+    inks = λ p h. map-at r (t .inks) p 0 0 (subst⁻¹ (λ (k : ℕ). p < k) (kept-one .count) h);
+  }
 
   pub same-inks : SameInks m n (inkIn (t .inks)) (inkIn (u .inks))
   same-inks = renamed-same m n r (inkIn (t .inks)) (inkIn (u .inks)) renamed-inks-below inks-renamed
@@ -120,13 +119,12 @@ pub nets-renamed : (r : ℕ → ℕ) (header : Header) (gates others : List Gate
     → readNet (printedNet (record { header = header; gates = others })) ≡ accepted (record { header = header; gates = others })
     → RenamedGates (header .levels) (header .inputs) r gates others
     → RenamedNets r (printedNet (record { header = header; gates = gates })) (printedNet (record { header = header; gates = others }))
-nets-renamed r header gates others reads reads-other renamed =
-    record {
-      net = record { header = header; gates = gates };
-      renamed = record { header = header; gates = others };
-      reads = reads;
-      reads-other = reads-other;
-      header = refl;
-      gates = renamed;
-      bytes = but-last-printed header gates others (renamed .lines);
-    }
+nets-renamed r header gates others reads reads-other renamed = record {
+  net = record { header = header; gates = gates };
+  renamed = record { header = header; gates = others };
+  reads = reads;
+  reads-other = reads-other;
+  header = refl;
+  gates = renamed;
+  bytes = but-last-printed header gates others (renamed .lines);
+}

@@ -4,13 +4,13 @@
 -- reaches. Shallow nets keep it too." They are refused with the same number and place, and leave the same marks.
 -- Assumes nothing.
 use Rattle.laws.specs.Prelude.{ℕ, _<_, _≤_, _^_, _≡_, _∙_, sym, ap, refl, subst, subst⁻¹, List, ℕ-discrete, arith, length, take}
-use Rattle.rules.specs.Sheets.Sheets.{Net, Table}
-use Rattle.rules.specs.Sheets.Printed.{printedNet}
+use Rattle.rules.specs.Calls.Answers.{accepted, refused, onward, inkIn, written}
+use Rattle.rules.specs.Calls.Settling.{Made, settledNet, writtenSheet, madeInto, makeCall}
+use Rattle.rules.specs.Calls.ShallowSettling.{Layered, LayeredMade, shallowNet, netLayers, makeShallowCall, layeredInto, withLayers, layered}
 use Rattle.rules.specs.Groups.Groups.{wholeGroup}
 use Rattle.rules.specs.Groups.Marks.{markIn, marksLength, storedMarks}
-use Rattle.rules.specs.Calls.Answers.{accepted, refused, onward, inkIn, written}
-use Rattle.rules.specs.Calls.Settling.{Made, settledNet, writtenSheet, afterMarks, madeInto, makeCall}
-use Rattle.rules.specs.Calls.ShallowSettling.{Layered, LayeredMade, shallowNet, netLayers, makeShallowCall, layeredInto, withLayers, layered}
+use Rattle.rules.specs.Sheets.Printed.{printedNet}
+use Rattle.rules.specs.Sheets.Sheets.{Net, Table}
 use Rattle.laws.specs.Calls.Answers.{accepted-inj, not-refused, written-front}
 use Rattle.laws.specs.Calls.Settling.{WholeTwo, marksOfTable, make-accepted, into-marked, marked-16, marked-tree, sheet-written}
 use Rattle.laws.specs.Calls.ShallowSettling.{plainAnswer, plain-layered, make-shallow-accepted}
@@ -79,12 +79,11 @@ pub record AlikeLayered (r : ℕ → ℕ) (n : ℕ) (made other : LayeredMade) :
 
 alike-layered : (r : ℕ → ℕ) (n count : ℕ) (made other : Made) → AlikeMade r n made other → AlikeLayered r n (withLayers count made) (withLayers count other)
 unfolding withLayers plainAnswer onward
-alike-layered r n count made other alike =
-    record {
-      answers = ap (layered count) (alike .answers);
-      marks = alike .marks;
-      sheets = λ a e. alike .sheets (a .length) (sym (plain-layered count (made .answer)) ∙ ap plainAnswer e);
-    }
+alike-layered r n count made other alike = record {
+  answers = ap (layered count) (alike .answers);
+  marks = alike .marks;
+  sheets = λ a e. alike .sheets (a .length) (sym (plain-layered count (made .answer)) ∙ ap plainAnswer e);
+}
 
 -- ---- the calls
 
@@ -110,31 +109,27 @@ module _ (r : ℕ → ℕ) (s other : List ℕ) (both : RenamedTables r s other)
   into-alike : (netFor : Table → Net) → (WholeTwo t → RenamedNets r (printedNet (netFor t)) (printedNet (netFor u)))
       → (cells marks output cells' marks' output' : List ℕ) → Enough netFor t cells marks output → Enough netFor u cells' marks' output'
       → AlikeMade r n (madeInto netFor t cells marks output) (madeInto netFor u cells' marks' output')
-  into-alike netFor nets cells marks output cells' marks' output' enough enough' = go (ℕ-discrete _ 2)
-    where
-      judged : madeInto netFor t cells marks output ≡ afterMarks netFor t cells marks output
-      judged = into-marked t cells marks output _ (enough .cells-fit) (enough .marks-fit)
-
-      judged' : madeInto netFor u cells' marks' output' ≡ afterMarks netFor u cells' marks' output'
-      judged' = into-marked u cells' marks' output' _ (enough' .cells-fit) (enough' .marks-fit)
-
-      go : Dec (WholeTwo t) → AlikeMade r n (madeInto netFor t cells marks output) (madeInto netFor u cells' marks' output')
-      go (no none) =
-          rw (
-            judged ∙ marked-16 netFor t cells marks output none,
-            judged' ∙ marked-16 netFor u cells' marks' output' (λ two. none (renamed-two two)),
-            ← (same-marks r s other both),
-          )
-          (alike-refused r n (storedMarks (marksOfTable t)) stored-count marks marks' 16 _ _ _ output output')
-      go (yes two) =
-          rw (
-            judged ∙ marked-tree netFor t cells marks output two,
-            judged' ∙ marked-tree netFor u cells' marks' output' (two-renamed two),
-            ← (same-marks r s other both),
-          )
-          (alike-written r n (storedMarks (marksOfTable t)) stored-count marks marks' _ _ _ _ output output' (nets two)
-          (enough .output-fits (two-tree t (kept-one r s other both) .1 two))
-          (enough' .output-fits (two-tree u (kept-other r s other both) .1 (two-renamed two))))
+  into-alike netFor nets cells marks output cells' marks' output' enough enough' =
+      let judged' = into-marked u cells' marks' output' _ (enough' .cells-fit) (enough' .marks-fit) in
+      let judged = into-marked t cells marks output _ (enough .cells-fit) (enough .marks-fit) in
+      elim (ℕ-discrete (markIn (marksOfTable t) (wholeGroup n)) 2) [
+        | no none ↦
+            rw (
+              judged ∙ marked-16 netFor t cells marks output none,
+              judged' ∙ marked-16 netFor u cells' marks' output' (λ two. none (renamed-two two)),
+              ← (same-marks r s other both),
+            )
+            (alike-refused r n (storedMarks (marksOfTable t)) stored-count marks marks' 16 _ _ _ output output')
+        | yes two ↦
+            rw (
+              judged ∙ marked-tree netFor t cells marks output two,
+              judged' ∙ marked-tree netFor u cells' marks' output' (two-renamed two),
+              ← (same-marks r s other both),
+            )
+            (alike-written r n (storedMarks (marksOfTable t)) stored-count marks marks' _ _ _ _ output output' (nets two)
+            (enough .output-fits (two-tree t (kept-one r s other both) .1 two))
+            (enough' .output-fits (two-tree u (kept-other r s other both) .1 (two-renamed two))))
+      ]
 
   -- the two settled sheets
   settled-sheets : WholeTwo t → RenamedNets r (printedNet (settledNet t)) (printedNet (settledNet u))

@@ -3,21 +3,25 @@
 -- another. For two ways, with a marks buffer that is long enough for each, the answer, the cells and the output are the same. If the buffer is short,
 -- each refuses with 14, at the length that its own way needs.
 -- Assumes nothing.
-use Rattle.laws.specs.Prelude.{ℕ, _<_, _≤_, _^_, _≡_, _∙_, sym, ap, refl, subst⁻¹, subst₂, true, false, Bool, List, [], lt-of-not-le, decLe, eqb, ltb}
-use Rattle.laws.specs.Prelude.{length, lt-ltb, le-ltb}
-use Rattle.rules.specs.Sheets.Sheets.{Net, Table}
-use Rattle.rules.specs.Sheets.Printed.{printedNet}
-use Rattle.rules.specs.Groups.Groups.{wholeGroup}
-use Rattle.rules.specs.Groups.Marks.{markIn, marksOf, marksLength, storedMarks, noTreePlace}
+use Rattle.laws.specs.Prelude.{ℕ, _<_, _≤_, _^_, _≡_, _∙_, sym, ap, refl, subst⁻¹, subst₂, true, false, Bool, List, [], lt-of-not-le, decLe, eqb, ltb, length}
+use Rattle.laws.specs.Prelude.{lt-ltb, le-ltb, answer-cases, by-cases}
 use Rattle.rules.specs.Calls.Answers.{Answer, accepted, inkIn, onward, refused, written}
-use Rattle.rules.specs.Sheets.Reading.{readNet, tableOfNet}
+use Rattle.rules.specs.Calls.FamilyCalls.{Counted, countOfTable, familyNet, countedInto, familyCountCall, afterCount, familyTreeCall}
 use Rattle.rules.specs.Calls.OpenCells.{fullCells, readFull}
-use Rattle.rules.specs.Calls.Marking.{Marked, markingCall}
 use Rattle.rules.specs.Calls.Settling.{Made, settledNet, writtenSheet, afterMarks, inRoom, madeInto, settleCall, makeCall}
 use Rattle.rules.specs.Calls.ShallowSettling.{LayeredMade, layered, layeredInto, netLayers, shallowNet, withLayers, settleShallowCall, makeShallowCall}
-use Rattle.rules.specs.Calls.FamilyCalls.{Counted, countOfTable, familyNet, countedInto, familyCountCall, afterCount, numberedInto, familyTreeCall}
-use Rattle.laws.specs.Calls.Settling.{marksOfTable, into-13, into-14, into-marked}
-use Rattle.laws.specs.Calls.FamilyCalls.{counted-13, counted-14, counted-marked}
+use Rattle.rules.specs.Groups.Groups.{wholeGroup}
+use Rattle.rules.specs.Groups.Marks.{markIn, marksOf, marksLength, storedMarks, noTreePlace}
+use Rattle.rules.specs.Sheets.Printed.{printedNet}
+use Rattle.rules.specs.Sheets.Reading.{readNet, tableOfNet}
+use Rattle.rules.specs.Sheets.Sheets.{Net, Table}
+use Rattle.rules.specs.Calls.Marking.{Marked, markingCall}
+use Rattle.laws.specs.Calls.Settling.{marksOfTable, into-13, into-14, into-marked, settle-refused, settle-accepted}
+use Rattle.laws.specs.Calls.Settling.{make-refused, make-accepted}
+use Rattle.laws.specs.Calls.ShallowSettling.{settle-shallow-refused, settle-shallow-accepted, make-shallow-refused}
+use Rattle.laws.specs.Calls.ShallowSettling.{make-shallow-accepted}
+use Rattle.laws.specs.Calls.FamilyCalls.{counted-13, counted-14, counted-marked, family-count-refused, family-count-accepted}
+use Rattle.laws.specs.Calls.FamilyCalls.{family-tree-refused, family-tree-accepted}
 
 -- ---- ways to store marks
 
@@ -51,11 +55,10 @@ makes-any-store netFor t cells marks output =
 
 -- the tree of a number: 17, 15 or the sheet
 unfoldable pub numbers : ℕ → Rest
-numbers number t cells marks output =
-    elim (ltb number (countOfTable t)) [
-      | false ↦ record { answer = refused 17 number; cells = cells; marks = marks; output = output }
-      | true ↦ writtenSheet (printedNet (familyNet number t)) cells marks output
-    ]
+numbers number t cells marks output = elim (ltb number (countOfTable t)) [
+  | false ↦ record { answer = refused 17 number; cells = cells; marks = marks; output = output }
+  | true ↦ writtenSheet (printedNet (familyNet number t)) cells marks output
+]
 
 -- the count
 unfoldable pub counts : Rest
@@ -159,15 +162,14 @@ pub stores-alike : (s s' : Store) (rest : Rest) → MarksUnread rest → (read :
     → BothLong s s' read marks other → SameOutcome (callBy s rest read cells marks output) (callBy s' rest read cells other output)
 unfolding callBy
 stores-alike s s' rest unread (refused number place) cells marks other output long = record { answer = refl; cells = refl; output = refl }
-stores-alike s s' rest unread (accepted t) cells marks other output long = go (decLe (t .header .levels ^ t .header .inputs) (length cells))
-  where
-    go : Dec (t .header .levels ^ t .header .inputs ≤ length cells) → SameOutcome (intoBy s rest t cells marks output) (intoBy s' rest t cells other output)
-    go (no h) = subst₂ SameOutcome (sym (by-13 s rest t cells marks output (lt-of-not-le h)))
-        (sym (by-13 s' rest t cells other output (lt-of-not-le h))) (record { answer = refl; cells = refl; output = refl })
-    go (yes h) =
-        subst₂ SameOutcome (sym (by-rest s rest t cells marks output h (long .first t refl)))
-        (sym (by-rest s' rest t cells other output h (long .second t refl)))
-        (unread t _ _ _ output)
+stores-alike s s' rest unread (accepted t) cells marks other output long = elim (decLe (t .header .levels ^ t .header .inputs) (length cells)) [
+  | no h ↦ subst₂ SameOutcome (sym (by-13 s rest t cells marks output (lt-of-not-le h)))
+      (sym (by-13 s' rest t cells other output (lt-of-not-le h))) (record { answer = refl; cells = refl; output = refl })
+  | yes h ↦
+      subst₂ SameOutcome (sym (by-rest s rest t cells marks output h (long .first t refl)))
+      (sym (by-rest s' rest t cells other output h (long .second t refl)))
+      (unread t _ _ _ output)
+]
 
 -- ---- the calls are of this kind
 
@@ -176,14 +178,11 @@ module _ (t : Table) (cells marks output : List ℕ) where
   room-is : (rest : Rest)
       → inRoom t cells marks output (rest t (written cells (t .inks)) (written marks (storedMarks (marksOfTable t))) output)
       ≡ intoBy fourToByte rest t cells marks output
-  room-is rest = go (decLe (t .header .levels ^ t .header .inputs) (length cells)) (decLe (marksLength (t .header .inputs)) (length marks))
-    where
-      go : Dec (t .header .levels ^ t .header .inputs ≤ length cells) → Dec (marksLength (t .header .inputs) ≤ length marks)
-          → inRoom t cells marks output (rest t (written cells (t .inks)) (written marks (storedMarks (marksOfTable t))) output)
-          ≡ intoBy fourToByte rest t cells marks output
-      go (no h) _ = into-13 t cells marks output _ (lt-of-not-le h) ∙ sym (by-13 fourToByte rest t cells marks output (lt-of-not-le h))
-      go (yes h) (no k) = into-14 t cells marks output _ h (lt-of-not-le k) ∙ sym (by-14 fourToByte rest t cells marks output h (lt-of-not-le k))
-      go (yes h) (yes k) = into-marked t cells marks output _ h k ∙ sym (by-rest fourToByte rest t cells marks output h k)
+  room-is rest = by-cases (decLe (t .header .levels ^ t .header .inputs) (length cells))
+      (λ h. by-cases (decLe (marksLength (t .header .inputs)) (length marks))
+      (λ k. into-marked t cells marks output _ h k ∙ sym (by-rest fourToByte rest t cells marks output h k))
+      (λ k. into-14 t cells marks output _ h (lt-of-not-le k) ∙ sym (by-14 fourToByte rest t cells marks output h (lt-of-not-le k))))
+      (λ h. into-13 t cells marks output _ (lt-of-not-le h) ∙ sym (by-13 fourToByte rest t cells marks output (lt-of-not-le h)))
 
   pub into-is : (netFor : Table → Net) → madeInto netFor t cells marks output ≡ intoBy fourToByte (makes-any-store netFor) t cells marks output
   unfolding afterMarks makes-any-store
@@ -191,85 +190,53 @@ module _ (t : Table) (cells marks output : List ℕ) where
 
 module _ (sheet cells marks output : List ℕ) where
   pub make-is : makeCall sheet cells marks output ≡ callBy fourToByte (makes-any-store settledNet) (readFull sheet) cells marks output
-  unfolding makeCall callBy
-  make-is = go (readFull sheet)
-    where
-      go : (a : Answer Table) → elim a as (λ _. Made) [
-        | refused number place ↦ record { answer = refused number place; cells = cells; marks = marks; output = output }
-        | accepted t ↦ madeInto settledNet t cells marks output
-      ] ≡ callBy fourToByte (makes-any-store settledNet) a cells marks output
-      go (refused number place) = refl
-      go (accepted t) = into-is t cells marks output settledNet
+  unfolding callBy
+  make-is = answer-cases (readFull sheet)
+      (λ number place e. rw e (make-refused sheet cells marks output number place e))
+      (λ t e. rw e (make-accepted sheet cells marks output t e ∙ into-is t cells marks output settledNet))
 
   pub settle-is : settleCall sheet cells marks output ≡ callBy fourToByte (makes-any-store settledNet) (readAsTable sheet) cells marks output
-  unfolding settleCall callBy onward
-  settle-is = go (readNet sheet)
-    where
-      go : (a : Answer Net) → elim a as (λ _. Made) [
-        | refused number place ↦ record { answer = refused number place; cells = cells; marks = marks; output = output }
-        | accepted net ↦ madeInto settledNet (tableOfNet net) cells marks output
-      ] ≡ callBy fourToByte (makes-any-store settledNet) (onward a (λ net. accepted (tableOfNet net))) cells marks output
-      go (refused number place) = refl
-      go (accepted net) = into-is (tableOfNet net) cells marks output settledNet
+  unfolding callBy onward
+  settle-is = answer-cases (readNet sheet)
+      (λ number place e. rw e (settle-refused sheet cells marks output number place e))
+      (λ net e. rw e (settle-accepted sheet cells marks output net e ∙ into-is (tableOfNet net) cells marks output settledNet))
 
   -- the shallow calls also return the layers of the net, which do not depend on the marks buffer
   pub make-shallow-is : makeShallowCall sheet cells marks output
       ≡ withShallow (readFull sheet) (callBy fourToByte (makes-any-store shallowNet) (readFull sheet) cells marks output)
-  unfolding makeShallowCall callBy withShallow withLayers layered onward layeredInto
-  make-shallow-is = go (readFull sheet)
-    where
-      go : (a : Answer Table) → elim a as (λ _. LayeredMade) [
-        | refused number place ↦ record { answer = refused number place; cells = cells; marks = marks; output = output }
-        | accepted t ↦ layeredInto shallowNet t cells marks output
-      ] ≡ withShallow a (callBy fourToByte (makes-any-store shallowNet) a cells marks output)
-      go (refused number place) = refl
-      go (accepted t) = ap (withLayers (netLayers (shallowNet t))) (into-is t cells marks output shallowNet)
+  unfolding callBy withShallow withLayers layered onward layeredInto
+  make-shallow-is = answer-cases (readFull sheet)
+      (λ number place e. rw e (make-shallow-refused sheet cells marks output number place e))
+      (λ t e. rw e (make-shallow-accepted sheet cells marks output t e ∙ ap (withLayers _) (into-is t cells marks output shallowNet)))
 
   pub settle-shallow-is : settleShallowCall sheet cells marks output
       ≡ withShallow (readAsTable sheet) (callBy fourToByte (makes-any-store shallowNet) (readAsTable sheet) cells marks output)
-  unfolding settleShallowCall callBy withShallow withLayers layered onward layeredInto
-  settle-shallow-is = go (readNet sheet)
-    where
-      go : (a : Answer Net) → elim a as (λ _. LayeredMade) [
-        | refused number place ↦ record { answer = refused number place; cells = cells; marks = marks; output = output }
-        | accepted net ↦ layeredInto shallowNet (tableOfNet net) cells marks output
-      ] ≡ withShallow (onward a (λ net. accepted (tableOfNet net)))
-          (callBy fourToByte (makes-any-store shallowNet) (onward a (λ net. accepted (tableOfNet net))) cells marks output)
-      go (refused number place) = refl
-      go (accepted net) = ap (withLayers (netLayers (shallowNet (tableOfNet net)))) (into-is (tableOfNet net) cells marks output shallowNet)
+  unfolding callBy withShallow withLayers layered onward layeredInto
+  settle-shallow-is = answer-cases (readNet sheet)
+      (λ number place e. rw e (settle-shallow-refused sheet cells marks output number place e))
+      (λ net e. rw e
+      (settle-shallow-accepted sheet cells marks output net e ∙ ap (withLayers _) (into-is (tableOfNet net) cells marks output shallowNet)))
 
   -- the calls of the family
   pub family-tree-is : (number : ℕ) → familyTreeCall sheet number cells marks output ≡ callBy fourToByte (numbers number) (readFull sheet) cells marks output
-  unfolding familyTreeCall callBy afterCount numbers
-  family-tree-is number = go (readFull sheet)
-    where
-      go : (a : Answer Table) → elim a as (λ _. Made) [
-        | refused refusal place ↦ record { answer = refused refusal place; cells = cells; marks = marks; output = output }
-        | accepted t ↦ numberedInto number t cells marks output
-      ] ≡ callBy fourToByte (numbers number) a cells marks output
-      go (refused refusal place) = refl
-      go (accepted t) = room-is t cells marks output (numbers number)
+  unfolding callBy afterCount numbers
+  family-tree-is number = answer-cases (readFull sheet)
+      (λ refusal place e. rw e (family-tree-refused sheet number cells marks output refusal place e))
+      (λ t e. rw e (family-tree-accepted sheet number cells marks output t e ∙ room-is t cells marks output (numbers number)))
 
 -- the count call has no output
 module _ (sheet cells marks : List ℕ) where
   pub family-count-is : familyCountCall sheet cells marks ≡ withoutOutput (callBy fourToByte counts (readFull sheet) cells marks [])
-  unfolding familyCountCall callBy withoutOutput counts
-  family-count-is = go (readFull sheet)
+  unfolding callBy withoutOutput counts
+  family-count-is = answer-cases (readFull sheet)
+      (λ number place e. rw e (family-count-refused sheet cells marks number place e))
+      (λ t e. rw e (family-count-accepted sheet cells marks t e ∙ into t (decLe _ _) (decLe _ _)))
     where
       into : (t : Table) → Dec (t .header .levels ^ t .header .inputs ≤ length cells) → Dec (marksLength (t .header .inputs) ≤ length marks)
           → countedInto t cells marks ≡ withoutOutput (intoBy fourToByte counts t cells marks [])
       into t (no h) _ = counted-13 t cells marks (lt-of-not-le h) ∙ ap withoutOutput (sym (by-13 fourToByte counts t cells marks [] (lt-of-not-le h)))
       into t (yes h) (no k) = counted-14 t cells marks h (lt-of-not-le k) ∙ ap withoutOutput (sym (by-14 fourToByte counts t cells marks [] h (lt-of-not-le k)))
-      into t (yes h) (yes k) =
-          counted-marked t cells marks h k
-          ∙ ap withoutOutput (sym (by-rest fourToByte counts t cells marks [] h k))
-
-      go : (a : Answer Table) → elim a as (λ _. Counted) [
-        | refused number place ↦ record { answer = refused number place; cells = cells; marks = marks }
-        | accepted t ↦ countedInto t cells marks
-      ] ≡ withoutOutput (callBy fourToByte counts a cells marks [])
-      go (refused number place) = refl
-      go (accepted t) = into t (decLe _ _) (decLe _ _)
+      into t (yes h) (yes k) = counted-marked t cells marks h k ∙ ap withoutOutput (sym (by-rest fourToByte counts t cells marks [] h k))
 
 -- ---- as before: packed, and one byte each
 
@@ -292,43 +259,44 @@ module _ (sheet cells marks other output : List ℕ) where
 
 -- "writes the marks buffer and answers the whole group's mark", for any way to store
 unfoldable pub markingBy : Store → ℕ → ℕ → List ℕ → List ℕ → Marked
-markingBy s m n cells buffer =
-    elim (fullCells m n cells) [
-      | refused number place ↦ record { answer = refused number place; marks = buffer }
-      | accepted _ ↦ elim (ltb (length buffer) (s .need n)) [
-        | true ↦ record { answer = refused 14 (s .need n); marks = buffer }
-        | false ↦
-            let marks = marksOf m n (inkIn cells) in
-            record { answer = accepted (markIn marks (wholeGroup n)); marks = written buffer (s .bytes marks) }
-      ]
-    ]
+markingBy s m n cells buffer = elim (fullCells m n cells) [
+  | refused number place ↦ record { answer = refused number place; marks = buffer }
+  | accepted _ ↦ elim (ltb (length buffer) (s .need n)) [
+    | true ↦ record { answer = refused 14 (s .need n); marks = buffer }
+    | false ↦
+        let marks = marksOf m n (inkIn cells) in
+        record { answer = accepted (markIn marks (wholeGroup n)); marks = written buffer (s .bytes marks) }
+  ]
+]
 
 module _ (m n : ℕ) (cells buffer : List ℕ) where
   pub marking-is : markingCall m n cells buffer ≡ markingBy fourToByte m n cells buffer
   unfolding markingCall markingBy
   marking-is = refl
 
--- its result
+-- its result, for any way and for the packed one
 module _ (s : Store) (m n : ℕ) (cells buffer : List ℕ) where
   by-bare : (number place : ℕ) → fullCells m n cells ≡ refused number place
       → markingBy s m n cells buffer ≡ record { answer = refused number place; marks = buffer }
   unfolding markingBy
   by-bare number place e = rw (e, markingBy)
 
-  by-marks : fullCells m n cells ≡ accepted tt → s .need n ≤ length buffer
+  pub by-marks : fullCells m n cells ≡ accepted tt → s .need n ≤ length buffer
       → markingBy s m n cells buffer
       ≡ record { answer = accepted (markIn (marksOf m n (inkIn cells)) (wholeGroup n)); marks = written buffer (s .bytes (marksOf m n (inkIn cells))) }
   unfolding markingBy
   by-marks e h = rw (e, le-ltb _ _ h, markingBy)
 
+pub marking-bare : (m n : ℕ) (cells buffer : List ℕ) (number place : ℕ) → fullCells m n cells ≡ refused number place
+    → markingCall m n cells buffer ≡ record { answer = refused number place; marks = buffer }
+marking-bare m n cells buffer number place e = marking-is m n cells buffer ∙ by-bare fourToByte m n cells buffer number place e
+
 -- its answer is the same for any two ways
 pub marking-alike : (s s' : Store) (m n : ℕ) (cells buffer other : List ℕ) → s .need n ≤ length buffer → s' .need n ≤ length other
     → markingBy s m n cells buffer .answer ≡ markingBy s' m n cells other .answer
-marking-alike s s' m n cells buffer other h k = go (fullCells m n cells) refl
+marking-alike s s' m n cells buffer other h k = answer-cases (fullCells m n cells)
+    (λ number place e. answered (by-bare s m n cells buffer number place e) ∙ sym (answered (by-bare s' m n cells other number place e)))
+    (λ _ e. answered (by-marks s m n cells buffer e h) ∙ sym (answered (by-marks s' m n cells other e k)))
   where
     answered : {a b : Marked} → a ≡ b → a .answer ≡ b .answer
     answered e i = e i .answer
-
-    go : (a : Answer (Unit {0})) → fullCells m n cells ≡ a → markingBy s m n cells buffer .answer ≡ markingBy s' m n cells other .answer
-    go (refused number place) e = answered (by-bare s m n cells buffer number place e) ∙ sym (answered (by-bare s' m n cells other number place e))
-    go (accepted _) e = answered (by-marks s m n cells buffer e h) ∙ sym (answered (by-marks s' m n cells other e k))

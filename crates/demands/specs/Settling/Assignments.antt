@@ -2,17 +2,17 @@
 -- (`table-at`, `check-agrees`, `make-refuses`) are statements about assignments.
 -- Assumes nothing.
 use Rattle.laws.specs.Prelude.{ℕ, _<_, _≤_, _+_, _-_, _^_, _≡_, sym, subst, _↔_, Iff·trans, Iff·not, List, length, getD}
-use Rattle.rules.specs.Sheets.Sheets.{Gate, Header, Net, Table}
-use Rattle.rules.specs.Nets.Value.{withGates, value, valueWith}
-use Rattle.rules.specs.Groups.Marks.{marksLength}
-use Rattle.rules.specs.Sheets.SheetRules.{HeaderRules, IsNet}
 use Rattle.rules.specs.Calls.Answers.{accepted, refused, inkIn}
 use Rattle.rules.specs.Calls.Checking.{agree, checkCall}
-use Rattle.rules.specs.Sheets.Reading.{readNet, readTable, tableOfNet}
 use Rattle.rules.specs.Calls.OpenCells.{readFull}
 use Rattle.rules.specs.Calls.Settling.{makeCall}
-use Rattle.laws.specs.Numbers.Assignments.{Assignment, indexOf, each-assignment}
+use Rattle.rules.specs.Groups.Marks.{marksLength}
 use Rattle.rules.specs.Nets.Trees.{Computes}
+use Rattle.rules.specs.Nets.Value.{withGates, value, valueWith}
+use Rattle.rules.specs.Sheets.Reading.{readNet, readTable, tableOfNet}
+use Rattle.rules.specs.Sheets.SheetRules.{HeaderRules, IsNet}
+use Rattle.rules.specs.Sheets.Sheets.{Gate, Header, Net, Table}
+use Rattle.laws.specs.Numbers.Assignments.{Assignment, indexOf, each-assignment}
 use Rattle.trees.specs.Trees.Uniqueness.{table-at}
 use Rattle.readback.specs.Sheets.ReadBack.{net-accepted, table-accepted}
 use Rattle.trees.specs.Trees.NetTables.{levels-pos}
@@ -82,8 +82,6 @@ pub make-refuses-assignments : (s : List ℕ) (t : Table) → readFull s ≡ acc
     → (cells marks output : List ℕ) → t .header .levels ^ t .header .inputs ≤ length cells → marksLength (t .header .inputs) ≤ length marks
     → ((place : ℕ) × (makeCall s cells marks output .answer ≡ refused 16 place)) ↔ (HasTreeOnAll t → ⊥)
 make-refuses-assignments s t reads cells marks output cells-fit marks-fit =
+    let all = computes-all t (full-accepted s t reads .1 .header) in
     Iff·trans (make-refuses s t reads cells marks output cells-fit marks-fit)
     (Iff·not (λ tree. (tree .0, tree .1, all (tree .0) .0 (tree .2)), λ tree. (tree .0, tree .1, all (tree .0) .1 (tree .2))))
-  where
-    all : (gates : List Gate) → Computes (t .header .levels) (t .header .inputs) gates (inkIn (t .inks)) ↔ AgreesOnAll gates t
-    all = computes-all t (full-accepted s t reads .1 .header)

@@ -3,22 +3,22 @@
 -- `LeafTrees` says which leaves are possible. "Otherwise making writes the very sheet that settling writes from every accepted net sheet with that
 -- table, the same levels and the same input names in the same order." "Demand 3 now speaks of full tables" (document 02, K13).
 -- Assumes nothing.
-use Rattle.laws.specs.Prelude.{ℕ, _<_, _≤_, _^_, _≡_, _∙_, sym, ap, refl, subst, subst⁻¹, _↔_, List, [], _∷_, ℕ-discrete, ltb, length}
-use Rattle.rules.specs.Lists.{any}
-use Rattle.rules.specs.Limits.{mostSettled}
-use Rattle.rules.specs.Sheets.Sheets.{Gate, Net, Table}
-use Rattle.rules.specs.Sheets.Printed.{printedNet}
-use Rattle.rules.specs.Groups.Marks.{marksLength, storedMarks, noTreePlace}
-use Rattle.rules.specs.Nets.Leaves.{leavesOf}
-use Rattle.rules.specs.Sheets.SheetRules.{IsNet, NetRules}
+use Rattle.laws.specs.Prelude.{ℕ, _≤_, _^_, _≡_, _∙_, sym, ap, refl, subst, subst⁻¹, _↔_, List, [], _∷_, ℕ-discrete, ltb, length, by-cases}
 use Rattle.rules.specs.Calls.Answers.{accepted, refused, inkIn, written}
-use Rattle.rules.specs.Calls.Settling.{Made, settledNet, writtenSheet, afterMarks, roomFor, inRoom, madeInto, settleCall, makeCall}
-use Rattle.rules.specs.Sheets.Reading.{readNet, tableOfNet}
-use Rattle.laws.specs.Calls.Settling.{WholeTwo, marksOfTable, make-accepted, into-marked, marked-16, marked-tree}
+use Rattle.rules.specs.Calls.OpenCells.{readFull}
+use Rattle.rules.specs.Calls.Settling.{Made, settledNet, writtenSheet, roomFor, inRoom, madeInto, settleCall, makeCall}
+use Rattle.rules.specs.Groups.Marks.{marksLength, storedMarks, noTreePlace}
+use Rattle.rules.specs.Limits.{mostSettled}
+use Rattle.rules.specs.Lists.{any}
+use Rattle.rules.specs.Nets.Leaves.{leavesOf}
 use Rattle.rules.specs.Nets.Trees.{Computes, TreeExists}
+use Rattle.rules.specs.Sheets.Printed.{printedNet}
+use Rattle.rules.specs.Sheets.Reading.{readNet, tableOfNet}
+use Rattle.rules.specs.Sheets.SheetRules.{IsNet, NetRules}
+use Rattle.rules.specs.Sheets.Sheets.{Gate, Net, Table}
+use Rattle.laws.specs.Calls.Settling.{WholeTwo, marksOfTable, make-accepted, into-marked, marked-16, marked-tree}
 use Rattle.trees.specs.Trees.Existence.{tree-exists, settled-net}
 use Rattle.trees.specs.Trees.Uniqueness.{table-is, table-at}
-use Rattle.trees.specs.Trees.NetTables.{levels-pos, inputs-several}
 use Rattle.readback.specs.Sheets.Length.{net-length}
 use Rattle.readback.specs.Sheets.ReadBack.{net-read-back, net-accepted}
 use Rattle.demands.specs.Settling.Settles.{sheetIn, sheetOf, Long, net-written, settles, table-path}
@@ -26,8 +26,7 @@ use Rattle.laws.specs.Calls.Answers.{accepted-inj, not-refused, written-front}
 use Rattle.demands.specs.Numbers.Numbers.{by-answer, not-given}
 use Rattle.laws.specs.Lists.Tests.{by-test}
 use Rattle.demands.specs.Numbers.SettlingNumbers.{sheet-numbers}
-use Rattle.rules.specs.Calls.OpenCells.{readFull}
-use Rattle.demands.specs.Sheets.FullSheets.{FullTableRules, full-accepted}
+use Rattle.demands.specs.Sheets.FullSheets.{FullTableRules, FullFacts, full-facts, full-accepted}
 
 -- a table's levels, inputs and inks, by one letter each
 pub record TableLetters : Type 0 where
@@ -55,14 +54,7 @@ abbrev pub netWith : Table → List Gate → Net
 netWith t gates = record { header = t .header; gates = gates }
 
 module _ (t : Table) (kept : FullTableRules t) where
-  pos : 0 < t .header .levels
-  pos = levels-pos (t .header .levels) (kept .header .levels)
-
-  several : 1 < t .header .inputs
-  several = inputs-several (t .header .inputs) (kept .header .inputs)
-
-  inks-below : (p : ℕ) → p < t .header .levels ^ t .header .inputs → inkIn (t .inks) p < t .header .levels
-  inks-below p h = kept .below p (subst⁻¹ (λ (k : ℕ). p < k) (kept .count) h)
+  open FullFacts (full-facts t kept) using (pos, several, inks-below)
 
   -- mark 2 at the whole group, a tree, and an accepted net sheet with the table are equivalent
   pub two-tree : HasTree t ↔ WholeTwo t
@@ -115,16 +107,15 @@ pub into-accepted : (netFor : Table → Net) (t : Table) (cells marks output she
     → WholeTwo t × (printedNet (netFor t) ≡ sheet)
 unfolding inRoom sheetIn writtenSheet
 into-accepted netFor t cells marks output sheet =
-    by-answer Wrote (roomFor t cells marks) _ _ (λ _ _. marked (ℕ-discrete _ 2)) (λ number place _ e. absurd (not-refused sheet number place (sym e)))
+    by-answer Wrote (roomFor t cells marks) _ _ (λ _ _. by-cases (ℕ-discrete _ 2)
+    (λ two. subst⁻¹ Wrote (marked-tree netFor t cells marks output two)
+    (by-test Wrote (ltb (length output) (length (printedNet (netFor t)))) _ _ (λ e. absurd (not-refused sheet 15 _ (sym e)))
+    (λ e. (two, sym (written-front output (printedNet (netFor t))) ∙ accepted-inj _ sheet e))))
+    (λ other. subst⁻¹ Wrote (marked-16 netFor t cells marks output other) (λ e. absurd (not-refused sheet 16 _ (sym e)))))
+    (λ number place _ e. absurd (not-refused sheet number place (sym e)))
   where
     Wrote : Made → Type 0
     Wrote made = sheetOf made ≡ accepted sheet → WholeTwo t × (printedNet (netFor t) ≡ sheet)
-
-    marked : Dec (WholeTwo t) → Wrote (afterMarks netFor t cells marks output)
-    marked (no other) = subst⁻¹ Wrote (marked-16 netFor t cells marks output other) (λ e. absurd (not-refused sheet 16 _ (sym e)))
-    marked (yes two) = subst⁻¹ Wrote (marked-tree netFor t cells marks output two)
-        (by-test Wrote (ltb (length output) (length (printedNet (netFor t)))) _ _ (λ e. absurd (not-refused sheet 15 _ (sym e)))
-        (λ e. (two, sym (written-front output (printedNet (netFor t))) ∙ accepted-inj _ sheet e)))
 
 -- the two ways in which making ends on an accepted sheet of a full table with long buffers
 pub data Making (t : Table) (made : Made) : Type 0 where
@@ -188,17 +179,14 @@ module _ (s : List ℕ) (t : Table) (reads : readFull s ≡ accepted t) where
   -- So making ends in one of the two ways, if the output has room for the settled sheet when there is one.
   pub make-either : (cells marks output : List ℕ) → t .header .levels ^ t .header .inputs ≤ length cells → marksLength (t .header .inputs) ≤ length marks
       → (HasTree t → length (printedNet (settledNet t)) ≤ length output) → Making t (makeCall s cells marks output)
-  make-either cells marks output cells-fit marks-fit output-fits = go (ℕ-discrete _ 2)
-    where
-      go : Dec (WholeTwo t) → Making t (makeCall s cells marks output)
-      go (no other) =
-          no-tree (λ tree. other (two-tree t kept .0 tree))
-          (ap (λ (made : Made). made .answer)
-          (make-accepted s cells marks output t reads ∙ into-marked t cells marks output _ cells-fit marks-fit
-          ∙ marked-16 settledNet t cells marks output other))
-      go (yes two) =
-          let tree = two-tree t kept .1 two in
-          some-tree tree (makes cells marks output tree (record { cells-fit = cells-fit; marks-fit = marks-fit; output-fits = output-fits tree }))
+  make-either cells marks output cells-fit marks-fit output-fits = by-cases (ℕ-discrete _ 2)
+      (λ two.
+      let tree = two-tree t kept .1 two in
+      some-tree tree (makes cells marks output tree (record { cells-fit = cells-fit; marks-fit = marks-fit; output-fits = output-fits tree })))
+      (λ other. no-tree (λ tree. other (two-tree t kept .0 tree))
+      (ap (λ (made : Made). made .answer)
+      (make-accepted s cells marks output t reads ∙ into-marked t cells marks output _ cells-fit marks-fit
+      ∙ marked-16 settledNet t cells marks output other)))
 
   -- The sheet that making leaves in the output, whatever the buffers, is a net that has exactly that table.
   pub made-sheet : (cells marks output sheet : List ℕ) → sheetOf (makeCall s cells marks output) ≡ accepted sheet

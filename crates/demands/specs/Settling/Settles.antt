@@ -3,15 +3,15 @@
 -- and gate tables, the two settled sheets are equal in length and in every byte exactly when the two nets compute the same
 -- table." (document 02, K12: "equal settling still means equal tables, unused inputs included")
 -- Assumes nothing.
-use Rattle.laws.specs.Prelude.{ℕ, _≤_, _^_, _≡_, _∙_, sym, ap, refl, _↔_, List, decLe, arith, length, take}
-use Rattle.rules.specs.Limits.{mostSettled}
-use Rattle.rules.specs.Sheets.Sheets.{Net, Table}
-use Rattle.rules.specs.Sheets.Printed.{printedNet}
-use Rattle.rules.specs.Groups.Marks.{marksLength, storedMarks}
-use Rattle.rules.specs.Sheets.SheetRules.{NetRules}
+use Rattle.laws.specs.Prelude.{ℕ, _≤_, _^_, _≡_, _∙_, sym, ap, _↔_, List, decLe, arith, length, take, answer-cases}
 use Rattle.rules.specs.Calls.Answers.{Answer, accepted, refused, written}
 use Rattle.rules.specs.Calls.Settling.{Made, settledNet, madeInto, settleCall}
+use Rattle.rules.specs.Groups.Marks.{marksLength, storedMarks}
+use Rattle.rules.specs.Limits.{mostSettled}
+use Rattle.rules.specs.Sheets.Printed.{printedNet}
 use Rattle.rules.specs.Sheets.Reading.{readNet, tableOfNet}
+use Rattle.rules.specs.Sheets.SheetRules.{NetRules}
+use Rattle.rules.specs.Sheets.Sheets.{Net, Table}
 use Rattle.laws.specs.Calls.Settling.{WholeTwo, marksOfTable, settle-accepted, into-marked, marked-tree, sheet-written, settle-refused, into-13}
 use Rattle.laws.specs.Calls.Settling.{into-14, sheet-15}
 use Rattle.demands.specs.Sheets.FirstLines.{threeLines, three-lines, same-lines}
@@ -114,7 +114,9 @@ module _ (s r : List ℕ) (net other : Net) (reads : readNet s ≡ accepted net)
 pub settled-is : (s cells marks output sheet : List ℕ) → sheetOf (settleCall s cells marks output) ≡ accepted sheet
     → (net : Net) × (readNet s ≡ accepted net) × (sheet ≡ printedNet (settledNet (tableOfNet net)))
 unfolding sheetIn
-settled-is s cells marks output sheet e = by-read (readNet s) refl
+settled-is s cells marks output sheet e = answer-cases (readNet s)
+    (λ number place reads. absurd (not-given number place (ap sheetOf (settle-refused s cells marks output number place reads))))
+    (λ net reads. (net, reads, written-is net reads (decLe _ _) (decLe _ _) (decLe _ _)))
   where
     not-given : (number place : ℕ) → sheetOf (settleCall s cells marks output) ≡ refused number place → ⊥
     not-given number place f = not-refused sheet number place (sym e ∙ f)
@@ -137,11 +139,6 @@ settled-is s cells marks output sheet e = by-read (readNet s) refl
         accepted-inj sheet (printedNet (settledNet (tableOfNet net)))
         (sym e ∙ settles s net reads cells marks output (record { cells-fit = c; marks-fit = m; output-fits = o }))
 
-    by-read : (a : Answer Net) → readNet s ≡ a → (net : Net) × (readNet s ≡ accepted net) × (sheet ≡ printedNet (settledNet (tableOfNet net)))
-    by-read (refused number place) reads = absurd (not-given number place (ap sheetOf (settle-refused s cells marks output number place reads)))
-    by-read (accepted net) reads =
-        (net, reads, written-is net reads (decLe _ _) (decLe _ _) (decLe _ _))
-
 -- the nets of two sheets, with the same header and the same table
 pub record SameNets (s r : List ℕ) : Type 0 where
   pub net : Net
@@ -159,8 +156,7 @@ unfolding tableOfNet
 same-settled s r sheet cells marks output cells' marks' output' e d =
     let (net, reads, is) = settled-is s cells marks output sheet e in
     let (other, reads-other, is-other) = settled-is r cells' marks' output' sheet d in
-    let table : tableOfNet net ≡ tableOfNet other =
-    sym (settled-own-table s net reads)
+    let table : tableOfNet net ≡ tableOfNet other = sym (settled-own-table s net reads)
     ∙ ap tableOfNet
     (accepted-inj (settledNet (tableOfNet net)) (settledNet (tableOfNet other))
     (sym (settled-accepted s net reads) ∙ ap readNet (sym is ∙ is-other) ∙ settled-accepted r other reads-other))

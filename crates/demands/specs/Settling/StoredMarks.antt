@@ -1,9 +1,9 @@
 -- The marks buffer that a call wrote: every group's mark can be read from it, whatever it held before.
 -- Assumes nothing.
 use Rattle.laws.specs.Prelude.{ℕ, _<_, _^_, _*_, _≡_, _∙_, sym, ap, true, List, arith, length, take}
-use Rattle.rules.specs.Limits.{sizeFits}
-use Rattle.rules.specs.Groups.Marks.{markIn, marksOf, marksLength, storedMarks, markStored, unpacked}
 use Rattle.rules.specs.Calls.Answers.{written}
+use Rattle.rules.specs.Groups.Marks.{markIn, marksOf, marksLength, storedMarks, markStored, unpacked}
+use Rattle.rules.specs.Limits.{sizeFits}
 use Rattle.laws.specs.Calls.Answers.{written-front}
 use Rattle.laws.specs.Numbers.Sizes.{sized}
 use Rattle.laws.specs.Nets.StoredMarks.{InTwoBits, stored-length, four-groups, unpacked-stored, mark-written}

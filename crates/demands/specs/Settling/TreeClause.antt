@@ -3,21 +3,21 @@
 -- tree's wiring and gate tables", and whatever its leaves: "inputs may stay unused" (document 02, K12). `LeafTrees` says which leaves are possible.
 -- Assumes nothing.
 use Rattle.laws.specs.Prelude.{ℕ, _<_, _≤_, _^_, _≡_, _∙_, sym, _↔_, Iff·trans, Iff·not, Iff·symm, List, length}
-use Rattle.rules.specs.Sheets.Sheets.{Net, Table, levelsAt}
-use Rattle.rules.specs.Groups.Marks.{marksLength}
-use Rattle.rules.specs.Sheets.SheetRules.{HeaderRules}
 use Rattle.rules.specs.Calls.Answers.{accepted, refused, inkIn}
-use Rattle.rules.specs.Sheets.Reading.{readNet, tableOfNet}
+use Rattle.rules.specs.Calls.OpenCells.{readFull}
 use Rattle.rules.specs.Calls.Settling.{makeCall}
-use Rattle.laws.specs.Numbers.Assignments.{each-assignment}
+use Rattle.rules.specs.Groups.Marks.{marksLength}
 use Rattle.rules.specs.Nets.Trees.{Tree, treeValue, GateTree, SomeTree}
+use Rattle.rules.specs.Sheets.Reading.{readNet, tableOfNet}
+use Rattle.rules.specs.Sheets.SheetRules.{HeaderRules}
+use Rattle.rules.specs.Sheets.Sheets.{Net, Table}
+use Rattle.laws.specs.Numbers.Assignments.{each-assignment}
 use Rattle.trees.specs.Trees.Uniqueness.{table-at}
 use Rattle.trees.specs.Trees.TreeExistence.{treeValueAt, tree-at-levels, trees-are-nets, net-is-gate-tree}
 use Rattle.readback.specs.Sheets.ReadBack.{net-accepted}
 use Rattle.trees.specs.Trees.NetTables.{levels-pos}
 use Rattle.demands.specs.Settling.Makes.{make-refuses}
 use Rattle.demands.specs.Settling.Assignments.{LevelsGiven, inkAt}
-use Rattle.rules.specs.Calls.OpenCells.{readFull}
 use Rattle.demands.specs.Sheets.FullSheets.{full-accepted}
 
 -- a tree with a gate, with the table's levels, over some of its inputs, none of them at two leaves
@@ -33,13 +33,10 @@ pub agrees-all : (t : Table) → HeaderRules (t .header) → (tree : Tree) → T
     → ((p : ℕ) → p < t .header .levels ^ t .header .inputs → treeValue (t .header .levels) (t .header .inputs) tree p ≡ inkIn (t .inks) p) ↔ TreeAgrees tree t
 unfolding inkAt
 agrees-all t kept tree is =
+    let at = tree-at-levels (t .header .levels) (t .header .inputs) tree (is .once) in
     Iff·trans (λ has p h. at p ∙ has p h, λ has p h. sym (at p) ∙ has p h)
     (each-assignment (t .header .levels) (t .header .inputs) (levels-pos (t .header .levels) (kept .levels))
     (λ ls p. treeValueAt (t .header .levels) tree ls ≡ inkIn (t .inks) p))
-  where
-    at : (p : ℕ) → treeValueAt (t .header .levels) tree (levelsAt (t .header .levels) (t .header .inputs) p)
-        ≡ treeValue (t .header .levels) (t .header .inputs) tree p
-    at = tree-at-levels (t .header .levels) (t .header .inputs) tree (is .once)
 
 -- some tree, whatever its leaves, its wiring and its digits, computes the table
 abbrev pub ComputedByTree : Table → Type 0

@@ -1,9 +1,10 @@
 -- The buffers that shallow settling and making need are those of settling and making: "otherwise as document 01 has them".
 -- Assumes nothing.
 use Rattle.laws.specs.Prelude.{ℕ, _≡_, List}
-use Rattle.rules.specs.Sheets.Sheets.{Table}
 use Rattle.rules.specs.Calls.Answers.{accepted}
+use Rattle.rules.specs.Calls.OpenCells.{readFull}
 use Rattle.rules.specs.Calls.ShallowSettling.{shallowNet, settleShallowCall, makeShallowCall}
+use Rattle.rules.specs.Sheets.Sheets.{Table}
 use Rattle.readback.specs.Readers.Numbers.{netNumbers}
 use Rattle.trees.specs.Shallow.ShallowTables.{shallow-as-long}
 use Rattle.demands.specs.Numbers.Numbers.{Gives}
@@ -11,7 +12,6 @@ use Rattle.demands.specs.Settling.Settles.{LongFor, Long}
 use Rattle.demands.specs.Settling.Makes.{HasTree, two-tree}
 use Rattle.demands.specs.Sheets.Lengths.{Ample, tableOrTree, settle-ample-numbers, make-ample-numbers}
 use Rattle.demands.specs.Shallow.ShallowRefusals.{settle-shallow-refuses, make-shallow-refuses}
-use Rattle.rules.specs.Calls.OpenCells.{readFull}
 use Rattle.demands.specs.Sheets.FullSheets.{full-accepted, full-keeps}
 
 -- buffers that are long enough for the settled sheet of a table are long enough for its shallow sheet

@@ -2,28 +2,28 @@
 -- making writes is an accepted net sheet with exactly the table and as many layers as it returns, and no net with that table has fewer.
 -- Assumes nothing.
 use Rattle.laws.specs.Prelude.{ℕ, _<_, _≤_, _^_, _≡_, _∙_, sym, ap, refl, List, decLt, ℕ-discrete, arith, length, take}
-use Rattle.rules.specs.Limits.{mostSettled}
-use Rattle.rules.specs.Sheets.Sheets.{Gate, Net, Table}
-use Rattle.rules.specs.Sheets.Printed.{printedNet}
-use Rattle.rules.specs.Nets.Layers.{layers}
-use Rattle.rules.specs.Groups.Marks.{marksLength, storedMarks}
-use Rattle.rules.specs.Sheets.SheetRules.{IsNet}
 use Rattle.rules.specs.Calls.Answers.{accepted, refused, inkIn, onward, written}
-use Rattle.rules.specs.Sheets.Reading.{readNet, tableOfNet}
+use Rattle.rules.specs.Calls.OpenCells.{readFull}
 use Rattle.rules.specs.Calls.Settling.{Made, madeInto}
 use Rattle.rules.specs.Calls.ShallowSettling.{Layered, LayeredMade, layered, withLayers, layeredInto, shallowNet, netLayers, makeShallowCall}
+use Rattle.rules.specs.Groups.Marks.{marksLength, storedMarks}
+use Rattle.rules.specs.Limits.{mostSettled}
+use Rattle.rules.specs.Nets.Trees.{Tree, wiringIn, Computes}
+use Rattle.rules.specs.Sheets.Printed.{printedNet}
+use Rattle.rules.specs.Sheets.Reading.{readNet, tableOfNet}
+use Rattle.rules.specs.Sheets.SheetRules.{IsNet}
+use Rattle.rules.specs.Sheets.Sheets.{Gate, Net, Table}
+use Rattle.rules.specs.Nets.Layers.{layers}
 use Rattle.laws.specs.Calls.Answers.{accepted-inj, not-refused, written-front}
 use Rattle.laws.specs.Calls.Settling.{WholeTwo, marksOfTable, into-13, into-14, into-marked, marked-16, marked-tree, sheet-15, sheet-written}
 use Rattle.laws.specs.Calls.ShallowSettling.{make-shallow-accepted}
 use Rattle.readback.specs.Sheets.ReadBack.{net-accepted, net-read-back}
 use Rattle.readback.specs.Sheets.Length.{net-length}
-use Rattle.rules.specs.Nets.Trees.{Tree, wiringIn, Computes}
 use Rattle.trees.specs.Shallow.Depths.{depth}
 use Rattle.trees.specs.Shallow.ShallowTables.{shallow-kept, shallow-has-table, shallow-least-gates, shallow-least-tree, shallow-least-net}
 use Rattle.demands.specs.Settling.Settles.{LongFor, table-path}
 use Rattle.demands.specs.Settling.Makes.{HasTree, two-tree}
 use Rattle.demands.specs.Settling.TreeClause.{TreeFor, TreeAgrees, agrees-all}
-use Rattle.rules.specs.Calls.OpenCells.{readFull}
 use Rattle.demands.specs.Sheets.FullSheets.{FullTableRules, full-accepted, full-keeps}
 
 -- ---- what is returned and written, whatever net is made of a table

@@ -2,12 +2,13 @@
 -- count of layers, and leave the same cells and marks; so they refuse exactly when those do, with the same number and place, and change no other
 -- buffer. This holds for 15 too: net sheets with one header and the same leaves have the same length.
 -- Assumes nothing.
-use Rattle.laws.specs.Prelude.{ℕ, _≡_, ap, refl, _↔_, List}
-use Rattle.rules.specs.Sheets.Sheets.{Net, Table}
+use Rattle.laws.specs.Prelude.{ℕ, _≡_, ap, refl, _↔_, List, answer-cases}
 use Rattle.rules.specs.Calls.Answers.{Answer, accepted, refused, onward}
-use Rattle.rules.specs.Sheets.Reading.{readNet, tableOfNet}
+use Rattle.rules.specs.Calls.OpenCells.{readFull}
 use Rattle.rules.specs.Calls.Settling.{settledNet, madeInto, settleCall, makeCall}
 use Rattle.rules.specs.Calls.ShallowSettling.{Layered, layeredInto, shallowNet, settleShallowCall, makeShallowCall}
+use Rattle.rules.specs.Sheets.Reading.{readNet, tableOfNet}
+use Rattle.rules.specs.Sheets.Sheets.{Table}
 use Rattle.laws.specs.Calls.Answers.{not-refused}
 use Rattle.laws.specs.Calls.Settling.{settle-refused, settle-accepted, make-refused, make-accepted}
 use Rattle.laws.specs.Calls.ShallowSettling.{plainAnswer, plainMade, plain-into, settle-shallow-refused, settle-shallow-accepted}
@@ -17,7 +18,6 @@ use Rattle.readback.specs.Sheets.ReadBack.{net-accepted}
 use Rattle.trees.specs.Shallow.ShallowTables.{shallow-as-long}
 use Rattle.demands.specs.Numbers.Numbers.{Gives}
 use Rattle.demands.specs.Numbers.SettlingNumbers.{settleNumbers, makeNumbers, settle-numbers, make-numbers, settle-never-16}
-use Rattle.rules.specs.Calls.OpenCells.{readFull}
 use Rattle.demands.specs.Sheets.FullSheets.{FullTableRules, full-accepted, net-kept, full-keeps}
 
 -- an answer without its count of layers refuses exactly if it did with it
@@ -47,14 +47,10 @@ module _ (s cells marks output : List ℕ) where
   -- .. and shallow settling the same as settling
   pub settle-but-sheet : ButSheet (plainMade (settleShallowCall s cells marks output)) (settleCall s cells marks output)
   unfolding plainMade plainAnswer onward
-  settle-but-sheet = go (readNet s) refl
-    where
-      go : (a : Answer Net) → readNet s ≡ a → ButSheet (plainMade (settleShallowCall s cells marks output)) (settleCall s cells marks output)
-      go (refused number place) e =
-          rw (settle-shallow-refused s cells marks output number place e, settle-refused s cells marks output number place e) (but-none _)
-      go (accepted net) e =
-          rw (settle-shallow-accepted s cells marks output net e, settle-accepted s cells marks output net e)
-          (from-table (tableOfNet net) (net-kept net (net-accepted s net e .1)) cells marks output)
+  settle-but-sheet = answer-cases (readNet s)
+      (λ number place e. rw (settle-shallow-refused s cells marks output number place e, settle-refused s cells marks output number place e) (but-none _))
+      (λ net e. rw (settle-shallow-accepted s cells marks output net e, settle-accepted s cells marks output net e)
+      (from-table (tableOfNet net) (net-kept net (net-accepted s net e .1)) cells marks output))
 
   -- So shallow making refuses exactly when making does, with the same number and place, ..
   pub make-shallow-refuses : (number place : ℕ)

@@ -3,20 +3,20 @@
 -- writes the same.
 -- Assumes nothing.
 use Rattle.laws.specs.Prelude.{ℕ, _≤_, _≡_, _∙_, sym, ap, _↔_, List, length}
-use Rattle.rules.specs.Limits.{mostSettled}
-use Rattle.rules.specs.Sheets.Sheets.{Gate, Net, Table}
-use Rattle.rules.specs.Sheets.Printed.{printedNet}
-use Rattle.rules.specs.Nets.Layers.{layers}
-use Rattle.rules.specs.Sheets.SheetRules.{IsNet, NetRules}
 use Rattle.rules.specs.Calls.Answers.{Answer, accepted, inkIn}
-use Rattle.rules.specs.Sheets.Reading.{readNet, tableOfNet}
 use Rattle.rules.specs.Calls.OpenCells.{readFull}
 use Rattle.rules.specs.Calls.ShallowSettling.{Layered, LayeredMade, shallowNet, netLayers, settleShallowCall, makeShallowCall}
+use Rattle.rules.specs.Limits.{mostSettled}
+use Rattle.rules.specs.Nets.Trees.{Tree, wiringIn, Computes}
+use Rattle.rules.specs.Sheets.Printed.{printedNet}
+use Rattle.rules.specs.Sheets.Reading.{readNet, tableOfNet}
+use Rattle.rules.specs.Sheets.SheetRules.{IsNet, NetRules}
+use Rattle.rules.specs.Sheets.Sheets.{Gate, Net, Table}
+use Rattle.rules.specs.Nets.Layers.{layers}
 use Rattle.laws.specs.Calls.Answers.{accepted-inj}
 use Rattle.laws.specs.Calls.ShallowSettling.{settle-shallow-accepted, make-shallow-accepted}
 use Rattle.readback.specs.Sheets.ReadBack.{net-accepted, net-read-back}
 use Rattle.readback.specs.Sheets.Length.{net-length}
-use Rattle.rules.specs.Nets.Trees.{Tree, wiringIn, Computes}
 use Rattle.trees.specs.Shallow.Depths.{depth}
 use Rattle.trees.specs.Trees.NetTables.{kept-table, net-full, net-whole-two}
 use Rattle.trees.specs.Shallow.ShallowTables.{shallow-kept, shallow-has-table, shallow-least-gates, shallow-least-tree, shallow-least-net}

@@ -2,13 +2,13 @@
 -- they have the same levels, inputs and names.
 -- Assumes nothing.
 use Rattle.laws.specs.Prelude.{ℕ, _≡_, _∙_, sym, ap, _↔_, List, [], _∷_, _++_, append-assoc, arith}
-use Rattle.rules.specs.Text.{newline, text, decimal}
-use Rattle.rules.specs.Sheets.Fields.{Read, read}
-use Rattle.rules.specs.Sheets.Sheets.{Header, Net, headerLines}
-use Rattle.rules.specs.Sheets.Printed.{line, firstLines, printedNet}
-use Rattle.rules.specs.Sheets.SheetRules.{HeaderRules, NetRules}
 use Rattle.rules.specs.Calls.Answers.{accepted}
+use Rattle.rules.specs.Sheets.Fields.{Read, read}
+use Rattle.rules.specs.Sheets.Printed.{line, firstLines, printedNet}
 use Rattle.rules.specs.Sheets.Reading.{readNet}
+use Rattle.rules.specs.Sheets.SheetRules.{HeaderRules, NetRules}
+use Rattle.rules.specs.Sheets.Sheets.{Header, Net, headerLines}
+use Rattle.rules.specs.Text.{newline, text, decimal}
 use Rattle.trees.specs.Trees.NetTables.{inputs-several}
 use Rattle.readback.specs.Readers.Fields.{parts-newline}
 use Rattle.readback.specs.Sheets.Header.{headText, spells-header}

@@ -1,25 +1,38 @@
 -- An accepted sheet of a full table (document 02, K13): which sheets these are, which rules their tables follow, and the numbers that refuse others.
 -- Assumes nothing.
-use Rattle.laws.specs.Prelude.{ℕ, _^_, _≡_, _∙_, sym, ap, refl, subst, _↔_, List, [], _∷_, arith, length}
-use Rattle.rules.specs.Lists.{all, any}
-use Rattle.rules.specs.Sheets.Sheets.{Net, Table}
-use Rattle.rules.specs.Sheets.Printed.{printedTable}
-use Rattle.rules.specs.Sheets.SheetRules.{HeaderRules, NetRules, TableRules, FullTable}
-use Rattle.rules.specs.Calls.Answers.{accepted, refused}
-use Rattle.rules.specs.Sheets.Reading.{readTable, tableOfNet}
+use Rattle.laws.specs.Prelude.{ℕ, _<_, _^_, _≡_, _∙_, sym, ap, refl, subst, _↔_, List, [], _∷_, arith, length}
+use Rattle.rules.specs.Calls.Answers.{accepted, refused, inkIn}
 use Rattle.rules.specs.Calls.OpenCells.{readFull}
+use Rattle.rules.specs.Lists.{all, any}
+use Rattle.rules.specs.Sheets.Printed.{printedTable}
+use Rattle.rules.specs.Sheets.Reading.{readTable, tableOfNet}
+use Rattle.rules.specs.Sheets.SheetRules.{HeaderRules, NetRules, TableRules, FullTable}
+use Rattle.rules.specs.Sheets.Sheets.{Net, Table}
 use Rattle.laws.specs.Lists.Distinct.{In, wider}
-use Rattle.laws.specs.Calls.OpenCells.{FullRead, turned-back, left-open, whole, full-read, read-full, read-accepted, full-table, table-full}
+use Rattle.laws.specs.Calls.OpenCells.{turned-back, left-open, whole, full-read, read-full, read-accepted, full-table, table-full}
 use Rattle.laws.specs.Calls.Answers.{not-refused}
 use Rattle.readback.specs.Readers.Numbers.{tableNumbers, table-refusal}
 use Rattle.readback.specs.Sheets.ReadBack.{table-accepted, table-read-back}
-use Rattle.trees.specs.Trees.NetTables.{kept-table, net-full}
+use Rattle.trees.specs.Trees.NetTables.{levels-pos, inputs-several, kept-table, net-full}
 
 -- a full table follows every rule: one ink below m for each cell
 pub record FullTableRules (t : Table) : Type 0 where
   pub header : HeaderRules (t .header)
   pub count : length (t .inks) ≡ t .header .levels ^ t .header .inputs
   pub below : FullTable t
+
+-- what most proofs about one need: several inputs, and inks below the levels
+pub record FullFacts (t : Table) : Type 0 where
+  pub pos : 0 < t .header .levels
+  pub several : 1 < t .header .inputs
+  pub inks-below : (p : ℕ) → p < t .header .levels ^ t .header .inputs → inkIn (t .inks) p < t .header .levels
+
+pub full-facts : (t : Table) → FullTableRules t → FullFacts t
+full-facts t kept = record {
+  pos = levels-pos (t .header .levels) (kept .header .levels);
+  several = inputs-several (t .header .inputs) (kept .header .inputs);
+  inks-below = λ p h. kept .below p (rw (kept .count) h);
+}
 
 module _ (t : Table) where
   pub full-kept : TableRules t → FullTable t → FullTableRules t
@@ -65,13 +78,12 @@ fullNumbers = 1 ∷ 2 ∷ 3 ∷ 4 ∷ 5 ∷ 6 ∷ 27 ∷ []
 
 pub full-refusal : (s : List ℕ) (number place : ℕ) → readFull s ≡ refused number place → In number fullNumbers
 unfolding any all
-full-refusal s number place e = go (full-read s)
-  where
-    go : FullRead s → In number fullNumbers
-    go (turned-back k at read back) =
-        let same : k ≡ number = cc in
-        subst (λ (j : ℕ). In j fullNumbers) same (wider tableNumbers fullNumbers refl k (table-refusal s k at read))
-    go (left-open t _ k _ back) =
-        let same : 27 ≡ number = cc in
-        subst (λ (j : ℕ). In j fullNumbers) same refl
-    go (whole t _ _ reads) = absurd (not-refused t number place (sym reads ∙ e))
+full-refusal s number place e = elim (full-read s) [
+  | turned-back k at read back ↦
+      let same : k ≡ number = cc in
+      subst (λ (j : ℕ). In j fullNumbers) same (wider tableNumbers fullNumbers refl k (table-refusal s k at read))
+  | left-open t _ k _ back ↦
+      let same : 27 ≡ number = cc in
+      subst (λ (j : ℕ). In j fullNumbers) same refl
+  | whole t _ _ reads ↦ absurd (not-refused t number place (sym reads ∙ e))
+]

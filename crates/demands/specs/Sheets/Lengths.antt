@@ -1,20 +1,19 @@
 -- The lengths that include/sitgurp.h calls "Buffers that always suffice: cells, marks, a net sheet, a table sheet." Each is at least what
 -- any accepted sheet needs, so with buffers of these lengths no call refuses with 13, 14 or 15.
 -- Assumes nothing.
-use Rattle.laws.specs.Prelude.{ℕ, _≤_, _^_, _≡_, _∙_, sym, ap, refl, subst₂, true, false, Bool, List, [], _∷_, le-trans, arith, length, le-ltb}
-use Rattle.rules.specs.Lists.{range, all, any}
-use Rattle.rules.specs.Limits.{cellsFit, mostCells, mostSettled, mostTableSheet}
-use Rattle.rules.specs.Sheets.Sheets.{Header, Net, Table}
-use Rattle.rules.specs.Sheets.Printed.{printedTable}
-use Rattle.rules.specs.Groups.Marks.{markIn, marksOf, marksLength, storedMarks}
-use Rattle.rules.specs.Groups.Groups.{wholeGroup}
-use Rattle.rules.specs.Sheets.SheetRules.{HeaderRules}
-use Rattle.rules.specs.Calls.Answers.{Answer, accepted, refused, inkIn, written, Named, netNamed, tableNamed, neither}
-use Rattle.rules.specs.Sheets.Reading.{readNet, readTable, tableOfNet}
+use Rattle.laws.specs.Prelude.{ℕ, _≤_, _^_, _≡_, _∙_, sym, ap, refl, subst₂, List, [], _∷_, le-trans, arith, length, test-cases, answer-cases}
+use Rattle.rules.specs.Calls.Answers.{Answer, accepted, refused, Named, netNamed, tableNamed, neither}
+use Rattle.rules.specs.Calls.Checking.{turnedDown, sameHeader, compared, Checked, checkCall}
 use Rattle.rules.specs.Calls.OpenCells.{fullCells, readFull}
-use Rattle.rules.specs.Calls.Marking.{Marked, markingCall}
 use Rattle.rules.specs.Calls.Settling.{Made, settleCall, makeCall}
-use Rattle.rules.specs.Calls.Checking.{turnedDown, sameHeader, compared, Checked, checkedInto, checkCall}
+use Rattle.rules.specs.Groups.Marks.{marksLength}
+use Rattle.rules.specs.Limits.{cellsFit, mostCells, mostSettled, mostTableSheet}
+use Rattle.rules.specs.Lists.{range, all, any}
+use Rattle.rules.specs.Sheets.Printed.{printedTable}
+use Rattle.rules.specs.Sheets.Reading.{readNet, readTable, tableOfNet}
+use Rattle.rules.specs.Sheets.SheetRules.{HeaderRules}
+use Rattle.rules.specs.Sheets.Sheets.{Header, Net, Table}
+use Rattle.rules.specs.Calls.Marking.{Marked, markingCall}
 use Rattle.rules.specs.Calls.TableWriting.{Written, writeTableCall}
 use Rattle.laws.specs.Lists.Distinct.{In, wider}
 use Rattle.laws.specs.Numbers.Sizes.{Size, sized, kept-size, everySize, bounded-at}
@@ -26,6 +25,7 @@ use Rattle.readback.specs.Readers.Numbers.{netNumbers, tableNumbers, net-refusa
 use Rattle.readback.specs.Sheets.ReadBack.{net-accepted, table-accepted}
 use Rattle.readback.specs.Sheets.Length.{net-length}
 use Rattle.readback.specs.Tables.TableLength.{table-length}
+use Rattle.demands.specs.Settling.AnyStore.{fourToByte, marking-is, marking-bare, by-marks}
 use Rattle.demands.specs.Settling.Settles.{sheetIn, sheetOf, Long, settles, settled-short}
 use Rattle.laws.specs.Calls.Answers.{not-refused}
 use Rattle.trees.specs.Trees.NetTables.{kept-table}
@@ -108,40 +108,31 @@ module _ (s cells marks output : List ℕ) (ample : Ample cells marks output) wh
 
   -- settling refuses only with the numbers of its sheet, ..
   pub settle-ample-numbers : Gives netNumbers (settleCall s cells marks output .answer)
-  settle-ample-numbers number place e = go (readNet s) refl
-    where
-      go : (a : Answer Net) → readNet s ≡ a → In number netNumbers
-      go (accepted net) d = absurd (no-refusal (settleCall s cells marks output) _ number place (settles s net d cells marks output (settle-ample net d)) e)
-      go (refused k at) d =
-          refuses netNumbers k at (net-refusal s k at d) number place
-          (sym (ap (λ (made : Made). made .answer) (settle-refused s cells marks output k at d)) ∙ e)
+  settle-ample-numbers number place e = answer-cases (readNet s)
+      (λ k at d. refuses netNumbers k at (net-refusal s k at d) number place
+      (sym (ap (λ (made : Made). made .answer) (settle-refused s cells marks output k at d)) ∙ e))
+      (λ net d. absurd (no-refusal (settleCall s cells marks output) _ number place (settles s net d cells marks output (settle-ample net d)) e))
 
   -- .. and making with those and 16
   pub make-ample-numbers : Gives tableOrTree (makeCall s cells marks output .answer)
   unfolding any all
-  make-ample-numbers number place e = go (readFull s) refl
+  make-ample-numbers number place e = answer-cases (readFull s)
+      (λ k at d. refuses tableOrTree k at (wider fullNumbers tableOrTree refl k (full-refusal s k at d)) number place
+      (sym (ap (λ (made : Made). made .answer) (make-refused s cells marks output k at d)) ∙ e))
+      (λ t d. made t (make-ample t d))
     where
       made : (t : Table) → Making t (makeCall s cells marks output) → In number tableOrTree
       made t (no-tree _ answer) = refuses tableOrTree 16 _ refl number place (sym answer ∙ e)
       made t (some-tree _ sheet) = absurd (no-refusal (makeCall s cells marks output) _ number place sheet e)
 
-      go : (a : Answer Table) → readFull s ≡ a → In number tableOrTree
-      go (accepted t) d = made t (make-ample t d)
-      go (refused k at) d =
-          refuses tableOrTree k at (wider fullNumbers tableOrTree refl k (full-refusal s k at d)) number place
-          (sym (ap (λ (made : Made). made .answer) (make-refused s cells marks output k at d)) ∙ e)
-
 -- table writing refuses only with the numbers of its sheet
 pub write-table-ample-numbers : (s output : List ℕ) → mostTableSheet ≤ length output → Gives netNumbers (writeTableCall s output .answer)
-write-table-ample-numbers s output ample number place e = go (readNet s) refl
+write-table-ample-numbers s output ample number place e = answer-cases (readNet s)
+    (λ k at d. refuses netNumbers k at (net-refusal s k at d) number place (answer _ (table-refused s output k at d)))
+    (λ net d. absurd (not-refused _ number place (answer _ (table-written s output net d (le-trans (written-table-short s net d) ample)))))
   where
     answer : (made : Written) → writeTableCall s output ≡ made → made .answer ≡ refused number place
     answer made d = sym (ap (λ (w : Written). w .answer) d) ∙ e
-
-    go : (a : Answer Net) → readNet s ≡ a → In number netNumbers
-    go (accepted net) d =
-        absurd (not-refused _ number place (answer _ (table-written s output net d (le-trans (written-table-short s net d) ample))))
-    go (refused k at) d = refuses netNumbers k at (net-refusal s k at d) number place (answer _ (table-refused s output k at d))
 
 -- ---- checking
 
@@ -173,19 +164,16 @@ module _ (s r cells : List ℕ) (ample : mostCells ≤ length cells) where
       go : (a : Answer Net) → readNet s ≡ a → (b : Answer Table) → readTable r ≡ b → In number (checkAmpleNumbers named)
       go (refused k at) d b f = turned netNamed k at (net-refusal s k at d) (answer _ (check-net-refused s r cells k at d))
       go (accepted net) d (refused k at) f = turned tableNamed k at (table-refusal r k at f) (answer _ (check-table-refused s r cells net d k at f))
-      go (accepted net) d (accepted t) f = headers (sameHeader (net .header) (t .header)) refl
+      go (accepted net) d (accepted t) f =
+          let both = check-accepted s r cells net d t f in
+          test-cases (sameHeader (net .header) (t .header))
+          (λ h. absurd (inks _ _ (t .inks) (comparison _ _ (t .inks)) (answer _ (both ∙ check-compared net t cells h fits))))
+          (λ h. turned neither 12 0 refl (answer _ (both ∙ check-12 net t cells h)))
         where
           fits : length (t .inks) ≤ length cells
           fits =
               let kept = table-accepted r t f .1 in
               rw (kept .count) (le-trans (kept-cells (t .header) (kept .header)) ample)
-
-          both : checkCall s r cells ≡ checkedInto net t cells
-          both = check-accepted s r cells net d t f
-
-          headers : (same : Bool) → sameHeader (net .header) (t .header) ≡ same → In number (checkAmpleNumbers named)
-          headers false h = turned neither 12 0 refl (answer _ (both ∙ check-12 net t cells h))
-          headers true h = absurd (inks _ _ (t .inks) (comparison _ _ (t .inks)) (answer _ (both ∙ check-compared net t cells h fits)))
 
 -- ---- marking
 
@@ -194,23 +182,13 @@ abbrev pub bareNumbers : List ℕ
 bareNumbers = 9 ∷ 10 ∷ 27 ∷ []
 
 module _ (m n : ℕ) (cells marks : List ℕ) (ample : mostMarks ≤ length marks) where
-  marks-refused : (k at : ℕ) → fullCells m n cells ≡ refused k at → markingCall m n cells marks ≡ record { answer = refused k at; marks = marks }
-  unfolding markingCall
-  marks-refused k at d = rw (d, markingCall)
-
-  marks-written : fullCells m n cells ≡ accepted tt
-      → markingCall m n cells marks
-      ≡ record { answer = accepted (markIn (marksOf m n (inkIn cells)) (wholeGroup n)); marks = written marks (storedMarks (marksOf m n (inkIn cells))) }
-  unfolding markingCall
-  marks-written d = rw (d, le-ltb (length marks) (marksLength n) (le-trans (size-marks m n (sized m n (cells-sized m n cells (sym d) .0))) ample), markingCall)
-
   -- marking refuses only with the numbers of its cells
   pub marking-ample-numbers : Gives bareNumbers (markingCall m n cells marks .answer)
   unfolding markingCall any
-  marking-ample-numbers number place e = go (fullCells m n cells) refl
-    where
-      go : (a : Answer (Unit {0})) → fullCells m n cells ≡ a → In number bareNumbers
-      go (accepted _) d = absurd (not-refused _ number place (sym (ap (λ (made : Marked). made .answer) (marks-written d)) ∙ e))
-      go (refused k at) d =
-          refuses bareNumbers k at (cells-numbers m n cells bareNumbers refl refl refl k at d) number place
-          (sym (ap (λ (made : Marked). made .answer) (marks-refused k at d)) ∙ e)
+  marking-ample-numbers number place e = answer-cases (fullCells m n cells)
+      (λ k at d. refuses bareNumbers k at (cells-numbers m n cells bareNumbers refl refl refl k at d) number place
+      (sym (ap (λ (made : Marked). made .answer) (marking-bare m n cells marks k at d)) ∙ e))
+      (λ _ d.
+      let long = le-trans (size-marks m n (sized m n (cells-sized m n cells (sym d) .0))) ample in
+      let marked = marking-is m n cells marks ∙ by-marks fourToByte m n cells marks d long in
+      absurd (not-refused _ number place (sym (ap (λ (made : Marked). made .answer) marked) ∙ e)))

@@ -2,12 +2,12 @@
 -- it, and the program refuses with 1 at 65,536 a sheet without an earlier fault that hasn't ended by then." (document 02, K6)
 -- Assumes nothing.
 use Rattle.laws.specs.Prelude.{ℕ, _<_, _≤_, _≡_, ap, _⊎_, inl, inr, List, arith, length, take, take-all}
-use Rattle.rules.specs.Limits.{mostRead}
-use Rattle.rules.specs.Sheets.Sheets.{Net, Table}
 use Rattle.rules.specs.Calls.Answers.{accepted, refused}
 use Rattle.rules.specs.Calls.Settling.{makeCall}
-use Rattle.rules.specs.Sheets.SheetRules.{FullTable}
+use Rattle.rules.specs.Limits.{mostRead}
 use Rattle.rules.specs.Sheets.Reading.{readNet, readTable}
+use Rattle.rules.specs.Sheets.SheetRules.{FullTable}
+use Rattle.rules.specs.Sheets.Sheets.{Net, Table}
 use Rattle.rules.specs.Calls.Programs.{refusalLines, settleProgram, makeProgram}
 use Rattle.laws.specs.Calls.OpenCells.{read-refused}
 use Rattle.readback.specs.Sheets.ReadBack.{table-accepted}

@@ -2,14 +2,14 @@
 -- have the same levels, inputs and names.
 -- Assumes nothing.
 use Rattle.laws.specs.Prelude.{ℕ, _<_, _≡_, _∙_, sym, ap, refl, _↔_, true, List, [], _∷_, _++_, append-assoc, append-nil, arith, length}
-use Rattle.rules.specs.Lists.{all, concatMap}
-use Rattle.rules.specs.Text.{space, newline, text, decimal}
-use Rattle.rules.specs.Sheets.Fields.{Read, read}
-use Rattle.rules.specs.Sheets.Sheets.{Header, Table, headerLines}
-use Rattle.rules.specs.Sheets.Printed.{firstLines, printedTable}
-use Rattle.rules.specs.Sheets.SheetRules.{HeaderRules, TableRules}
 use Rattle.rules.specs.Calls.Answers.{accepted}
+use Rattle.rules.specs.Lists.{all, concatMap}
+use Rattle.rules.specs.Sheets.Fields.{Read, read}
+use Rattle.rules.specs.Sheets.Printed.{firstLines, printedTable}
 use Rattle.rules.specs.Sheets.Reading.{readTable}
+use Rattle.rules.specs.Sheets.SheetRules.{HeaderRules, TableRules}
+use Rattle.rules.specs.Sheets.Sheets.{Header, Table, headerLines}
+use Rattle.rules.specs.Text.{space, newline, text, decimal}
 use Rattle.laws.specs.Lists.Tests.{all-append}
 use Rattle.trees.specs.Trees.NetTables.{inputs-several}
 use Rattle.readback.specs.Readers.Fields.{parts-space}

@@ -2,7 +2,7 @@
 -- Assumes nothing.
 use Rattle.laws.specs.Prelude.{ℕ, _<_, _≤_, _+_, _-_, _^_, _*_, _%_, _/_, _≡_, _∙_, sym, ap, ap₂, true, false, List, mod-lt, div-lt-iff-lt-mul, mul-one, _⊎_}
 use Rattle.laws.specs.Prelude.{inl, inr, add-comm, mul-comm, one-le-pow, mul-assoc, mod-eq-of-lt, mul-add, mul-div-cancel, arith, length, getD, digits-lt}
-use Rattle.laws.specs.Prelude.{digits-mod, digits-div}
+use Rattle.laws.specs.Prelude.{digits-mod, digits-div, div-add-mod'}
 use Rattle.rules.specs.Limits.{mostLevels}
 use Rattle.rules.specs.Sheets.Sheets.{level}
 use Rattle.rules.specs.Groups.Groups.{member, part, others}
@@ -11,8 +11,9 @@ use Rattle.trees.specs.Trees.Trees.{mix}
 use Rattle.trees.specs.Groups.Levels.{part-below, part-ext, part-part, part-mix, level-mix-out, mix-zero, mix-join}
 use Rattle.trees.specs.Groups.Joins.{Over, apart-sym}
 use Rattle.trees.specs.Groups.Covers.{sum-mix, part-single}
+use Rattle.evaluation.specs.declared.lists.order.Span.{Span}
 use Rattle.evaluation.specs.declared.lists.order.Order.{Order}
-use Rattle.evaluation.specs.Lists.Pairs.{PairsReady, JoinReady, JoinDone, pairPlace, pairDigit}
+use Rattle.evaluation.specs.Lists.Pairs.{JoinReady, PairsJoined, pairOf}
 
 -- the entry for assignment x of a wire of group g and value v
 abbrev pub entryOf : ℕ → ℕ → ℕ → (ℕ → ℕ) → ℕ → ℕ
@@ -31,74 +32,62 @@ list-same m n g v count e h same list =
       every = λ x. let (p, l, is) = list .every x in (p, l, same p l ∙ is);
     }
 
+-- the span of a gate with these sides
+abbrev pub joinedSpan : Span → Span → ℕ → Span
+joinedSpan left right to = record { start = to; count = left .count * right .count; group = left .group + right .group }
+
 -- the left's list outside, for m levels
-abbrev pub leftOutside : ℕ → ℕ → ℕ → ℕ → ℕ → Order
-leftOutside m left many right count = record { wide = m; step = 1; outer = left; many = many; inner = right; count = count }
+abbrev pub leftOutside : ℕ → Span → Span → Order
+leftOutside m left right = record { wide = m; step = 1; outer = left; inner = right }
 
 abbrev pub exchanged : Order → Order
-exchanged o = record { wide = o .step; step = o .wide; outer = o .inner; many = o .count; inner = o .outer; count = o .many }
+exchanged o = record { wide = o .step; step = o .wide; outer = o .inner; inner = o .outer }
 
 -- the left's list or the right's is outside
-abbrev pub Ordered : ℕ → ℕ → ℕ → ℕ → ℕ → Order → Type 0
-Ordered m left many right count o = (o ≡ leftOutside m left many right count) ⊎ (o ≡ exchanged (leftOutside m left many right count))
+abbrev pub Ordered : ℕ → Span → Span → Order → Type 0
+Ordered m left right o = (o ≡ leftOutside m left right) ⊎ (o ≡ exchanged (leftOutside m left right))
 
--- a wire of group g and value v, and its list: `count` entries from `start` on, before `end`
-pub record Side (m n g : ℕ) (v : ℕ → ℕ) (lists : List ℕ) (end start count : ℕ) : Type 0 where
-  pub below : g < 2 ^ n
-  pub over : Over m n g v
+-- a wire of value v, and its list, before `end`
+pub record Side (m n : ℕ) (v : ℕ → ℕ) (lists : List ℕ) (end : ℕ) (s : Span) : Type 0 where
+  pub below : s .group < 2 ^ n
+  pub over : Over m n (s .group) v
   pub low : (z : ℕ) → v z < 16
-  pub there : start + count ≤ end
-  pub list : WireList m n g v count (λ p. getD lists (start + p) 0)
-
--- .. after more lists
-pub side-kept : {m n g : ℕ} {v : ℕ → ℕ} {before : List ℕ} {end start count : ℕ} (after : List ℕ) (to : ℕ)
-    → ((q : ℕ) → q < end → getD after q 0 ≡ getD before q 0) → end ≤ to → Side m n g v before end start count → Side m n g v after to start count
-side-kept after to kept grown s =
-    record {
-      below = s .below;
-      over = s .over;
-      low = s .low;
-      there = omega (arith, s .there);
-      list = list-same _ _ _ _ _ _ _ (λ p h. kept _ (omega (arith, s .there))) (s .list);
-    }
+  pub there : s .start + s .count ≤ end
+  pub list : WireList m n (s .group) v (s .count) (λ p. getD lists (s .start + p) 0)
 
 -- two wires of groups that share no input, and a wire of both whose value is the digit for theirs
 pub record Sides (m n g : ℕ) (w : ℕ → ℕ) (digits : List ℕ) (from : ℕ) (lists : List ℕ) (end entries : ℕ) (o : Order) : Type 0 where
-  pub a : ℕ
-  pub b : ℕ
   pub u : ℕ → ℕ
   pub v : ℕ → ℕ
-  pub outer : Side m n a u lists end (o .outer) (o .many)
-  pub inner : Side m n b v lists end (o .inner) (o .count)
-  pub group : a + b ≡ g
-  pub apart : Apart n a b
+  pub outer : Side m n u lists end (o .outer)
+  pub inner : Side m n v lists end (o .inner)
+  pub group : o .outer .group + o .inner .group ≡ g
+  pub apart : Apart n (o .outer .group) (o .inner .group)
   pub w-low : (z : ℕ) → w z < 16
   pub few : o .wide ≤ mostLevels
   pub near : o .step ≤ mostLevels
   pub there : (z : ℕ) → from + u z * o .wide + v z * o .step < length digits
   pub is-w : (z : ℕ) → getD digits (from + u z * o .wide + v z * o .step) 0 ≡ w z
-  pub product : o .many * o .count ≡ entries
+  pub product : o .outer .count * o .inner .count ≡ entries
 
 -- .. in either order
 module _ {m n g : ℕ} {w : ℕ → ℕ} {digits : List ℕ} {from : ℕ} {lists : List ℕ} {end entries : ℕ} {o : Order}
     (s : Sides m n g w digits from lists end entries o) where
-  pub sides-exchanged : Sides m n g w digits from lists end entries (exchanged o)
+  sides-exchanged : Sides m n g w digits from lists end entries (exchanged o)
   sides-exchanged =
       record {
-        a = s .b;
-        b = s .a;
         u = s .v;
         v = s .u;
         outer = s .inner;
         inner = s .outer;
-        group = add-comm (s .b) (s .a) ∙ s .group;
-        apart = apart-sym n (s .a) (s .b) (s .apart);
+        group = add-comm (o .inner .group) (o .outer .group) ∙ s .group;
+        apart = apart-sym n (o .outer .group) (o .inner .group) (s .apart);
         w-low = s .w-low;
         few = s .near;
         near = s .few;
         there = λ z. omega (arith, s .there z);
         is-w = λ z. ap (λ (k : ℕ). getD digits k 0) (omega arith) ∙ s .is-w z;
-        product = mul-comm (o .count) (o .many) ∙ s .product;
+        product = mul-comm (o .inner .count) (o .outer .count) ∙ s .product;
       }
 
   pub sides-ordered : (q : Order) → (q ≡ o) ⊎ (q ≡ exchanged o) → Sides m n g w digits from lists end entries q
@@ -136,10 +125,10 @@ module _ (m n : ℕ) (pos : 0 < m) where
   module _ {g : ℕ} {w : ℕ → ℕ} {digits : List ℕ} {from : ℕ} {lists : List ℕ} {end entries : ℕ} {o : Order}
       (sides : Sides m n g w digits from lists end entries o) where
     abbrev a : ℕ
-    a = sides .a
+    a = o .outer .group
 
     abbrev b : ℕ
-    b = sides .b
+    b = o .inner .group
 
     -- the entries for one assignment
     module _ (e h z : ℕ) (is-a : e ≡ entryOf m n a (sides .u) z) (is-b : h ≡ entryOf m n b (sides .v) z) where
@@ -166,9 +155,12 @@ module _ (m n : ℕ) (pos : 0 < m) where
       entry-there : from + e % 16 * o .wide + h % 16 * o .step < length digits
       entry-there = rw (level-a, level-b) (sides .there z)
 
+      entry-is : pairOf o digits from e h ≡ entryOf m n g w z
+      entry-is = ap₂ (λ (k l : ℕ). k * 16 + l) entry-place entry-digit
+
     -- a pair is one of some assignment: with the outer's levels at its group, and the inner's elsewhere
-    pair-known : (i j : ℕ) → i < o .many → j < o .count
-        → (z : ℕ) × (getD lists (o .outer + i) 0 ≡ entryOf m n a (sides .u) z) × (getD lists (o .inner + j) 0 ≡ entryOf m n b (sides .v) z)
+    pair-known : (i j : ℕ) → i < o .outer .count → j < o .inner .count
+        → (z : ℕ) × (getD lists (o .outer .start + i) 0 ≡ entryOf m n a (sides .u) z) × (getD lists (o .inner .start + j) 0 ≡ entryOf m n b (sides .v) z)
     pair-known i j i< j< =
         let (x, is-x) = sides .outer .list .each i i< in
         let (y, is-y) = sides .inner .list .each j j< in
@@ -183,49 +175,51 @@ module _ (m n : ℕ) (pos : 0 < m) where
         out : (k : ℕ) → k < n → member k b ≡ true → member k a ≡ false
         out k h e = rw e at (apart-sym n a b (sides .apart) k h)
 
-    pub pairs-ready : (bound : ℕ) → m ^ n ≤ bound → PairsReady (o .wide) (o .step) digits from (o .outer) (o .many) (o .inner) (o .count) bound lists
-    pairs-ready bound large =
+    -- the assignment, the digit and the place of a pair
+    pub pair-at : (i j : ℕ) → i < o .outer .count → j < o .inner .count
+        → (z : ℕ) × (getD lists (o .outer .start + i) 0 / 16 + getD lists (o .inner .start + j) 0 / 16 ≡ part m n g z)
+        × (from + getD lists (o .outer .start + i) 0 % 16 * o .wide + getD lists (o .inner .start + j) 0 % 16 * o .step < length digits)
+        × (getD digits (from + getD lists (o .outer .start + i) 0 % 16 * o .wide + getD lists (o .inner .start + j) 0 % 16 * o .step) 0 ≡ w z)
+    pair-at i j i< j< =
+        let (z, is-a, is-b) = pair-known i j i< j< in
+        (z, entry-place _ _ z is-a is-b, entry-there _ _ z is-a is-b, entry-digit _ _ z is-a is-b)
+
+    -- .. and an assignment's pair
+    pub pair-of : (z : ℕ) → (i j : ℕ) × (i < o .outer .count) × (j < o .inner .count)
+        × (getD lists (o .outer .start + i) 0 / 16 + getD lists (o .inner .start + j) 0 / 16 ≡ part m n g z)
+    pair-of z =
+        let (i, i<, is-a) = sides .outer .list .every z in
+        let (j, j<, is-b) = sides .inner .list .every z in
+        (i, j, i<, j<, entry-place _ _ z is-a is-b)
+
+    pub pairs-join : m ^ n ≤ 4096 → end + entries ≤ length lists → JoinReady o digits from end lists
+    pairs-join small room =
         record {
+          outer-there = sides .outer .there;
+          inner-there = sides .inner .there;
+          room = omega (arith, sides .product);
           few = sides .few;
           near = sides .near;
           from-there = omega (arith, sides .there 0);
           digit-there = λ i j i< j<. let (z, is-a, is-b) = pair-known i j i< j< in entry-there _ _ z is-a is-b;
-          digit-low = λ i j i< j<. let (z, is-a, is-b) = pair-known i j i< j< in rw (entry-digit _ _ z is-a is-b) (sides .w-low z);
-          place-low = λ i j i< j<.
+          fits = λ i j i< j<.
               let (z, is-a, is-b) = pair-known i j i< j< in
-              rw (entry-place _ _ z is-a is-b) (omega (arith, part-below m n pos g z));
+              rw (entry-is _ _ z is-a is-b) (omega (arith, part-below m n pos g z, sides .w-low z));
         }
 
-    -- pair p is one of assignment z
-    abbrev pub PairOf : ℕ → ℕ → Type 0
-    PairOf p z = (pairPlace (o .outer) (o .inner) (o .count) lists p ≡ part m n g z)
-        × (pairDigit (o .wide) (o .step) digits from (o .outer) (o .inner) (o .count) lists p ≡ w z)
-
-    pub pair-each : (p : ℕ) → p < o .many * o .count → (z : ℕ) × PairOf p z
-    pair-each p h =
-        let (_, some, _) = sides .inner .list .every 0 in
-        let (z, is-a, is-b) = pair-known (p / o .count) (p % o .count) (div-lt-iff-lt-mul (omega arith) .1 h) (mod-lt p (omega arith)) in
-        (z, (entry-place _ _ z is-a is-b, entry-digit _ _ z is-a is-b))
-
-    -- .. and every assignment has one
-    pub pair-every : (z : ℕ) → (p : ℕ) × (p < o .many * o .count) × PairOf p z
-    pair-every z =
-        let (i, i<, is-a) = sides .outer .list .every z in
-        let (j, j<, is-b) = sides .inner .list .every z in
-        (i * o .count + j, digits-lt i< j<, rw (digits-div i j<, digits-mod i j<) (entry-place _ _ z is-a is-b, entry-digit _ _ z is-a is-b))
-
-    -- the pairs' entries go to `end`
-    pub pairs-join : m ^ n ≤ 4096 → end + entries ≤ length lists
-        → JoinReady (o .wide) (o .step) digits from (o .outer) (o .many) (o .inner) (o .count) end lists
-    pairs-join small room =
-        record { left-there = sides .outer .there; right-there = sides .inner .there; room = omega (arith, sides .product); pairs = pairs-ready 4096 small }
-
-    pub pairs-listed : (after : List ℕ) → JoinDone (o .wide) (o .step) digits from (o .outer) (o .many) (o .inner) (o .count) end lists after
-        → WireList m n g w entries (λ p. getD after (end + p) 0)
-    pairs-listed after run =
+    pub pairs-listed : (after : List ℕ) → PairsJoined o digits from end lists (o .outer .count) after → WireList m n g w entries (λ p. getD after (end + p) 0)
+    pairs-listed after joined =
         rw (sym (sides .product))
-        (list-same m n g w _ _ _ (λ p h. run .there p h)
         (record {
-          each = λ p h. let (z, (at, is)) = pair-each p h in (z, ap₂ (λ (k l : ℕ). k * 16 + l) at is);
-          every = λ z. let (p, h, (at, is)) = pair-every z in (p, h, ap₂ (λ (k l : ℕ). k * 16 + l) at is);
-        }))
+          each = λ p h.
+              let (_, some, _) = sides .inner .list .every 0 in
+              let full : 0 < o .inner .count = omega arith in
+              let i< : p / o .inner .count < o .outer .count = div-lt-iff-lt-mul full .1 h in
+              let j< : p % o .inner .count < o .inner .count = mod-lt p full in
+              let (z, is-a, is-b) = pair-known _ _ i< j< in
+              (z, ap (λ (q : ℕ). getD after (end + q) 0) (sym (div-add-mod' p (o .inner .count))) ∙ joined .there _ _ i< j< ∙ entry-is _ _ z is-a is-b);
+          every = λ z.
+              let (i, i<, is-a) = sides .outer .list .every z in
+              let (j, j<, is-b) = sides .inner .list .every z in
+              (i * o .inner .count + j, digits-lt i< j<, joined .there i j i< j< ∙ entry-is _ _ z is-a is-b);
+        })

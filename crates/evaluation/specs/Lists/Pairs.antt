@@ -1,10 +1,11 @@
--- A gate at every pair of an entry of its left and one of its right. An entry is 16 times an assignment plus a value.
+-- A gate at every pair of an entry of its outer list and one of its inner list. An entry is 16 times an assignment plus a value.
 -- Assumes nothing.
-use Rattle.laws.specs.Prelude.{ℕ, _<_, _≤_, _+_, _*_, _%_, _/_, _≡_, sym, ap, ap₂, List, mul-le-mul-right, suc-mul, mul-le-mul, add-one, arith, length}
-use Rattle.laws.specs.Prelude.{getD, digits-mod, digits-div}
+use Rattle.laws.specs.Prelude.{ℕ, _<_, _≤_, _+_, _*_, _%_, _/_, _≡_, _∙_, ap, ap₂, refl, List, mul-le-mul-right, suc-mul, mul-le-mul, add-one, ℕ-discrete}
+use Rattle.laws.specs.Prelude.{arith, length, getD, digits-lt}
 use Rattle.rules.specs.Limits.{mostLevels}
-use Rattle.evaluation.specs.Lists.Runs.{Run, run-append}
-use Rattle.evaluation.specs.Lists.Painted.{Painted, painted-append}
+use Rattle.evaluation.specs.declared.lists.order.Span.{Span}
+use Rattle.evaluation.specs.declared.lists.order.Order.{Order}
+use Rattle.evaluation.specs.Lists.Runs.{Run}
 
 -- above every entry
 abbrev pub entriesEnd : ℕ
@@ -14,145 +15,95 @@ entriesEnd = 65_536
 pub level-distance : {k : ℕ} (e : ℕ) → k ≤ mostLevels → e % 16 * k ≤ 135
 level-distance e few = let low : e % 16 ≤ 15 = omega arith in mul-le-mul low few
 
--- ---- one entry of the left, whose digits begin at `row`, and entry j of the right
+-- the gate's entry for an outer entry, whose digits begin at `row` and whose assignment is `place`, and the inner entry b
+abbrev pub joinedEntry : List ℕ → ℕ → ℕ → ℕ → ℕ → ℕ
+joinedEntry digits row step place b = (place + b / 16) * 16 + getD digits (row + b % 16 * step) 0
 
-abbrev pub entryPlace : ℕ → ℕ → List ℕ → ℕ → ℕ
-entryPlace place right lists j = place + getD lists (right + j) 0 / 16
+-- .. and entry j of the inner list
+abbrev pub rowEntry : Span → List ℕ → ℕ → ℕ → ℕ → List ℕ → ℕ → ℕ
+rowEntry inner digits row step place lists j = joinedEntry digits row step place (getD lists (inner .start + j) 0)
 
-abbrev pub rowDigit : List ℕ → ℕ → ℕ → ℕ → List ℕ → ℕ → ℕ
-rowDigit digits row step right lists j = getD digits (row + getD lists (right + j) 0 % 16 * step) 0
-
-abbrev pub rowEntry : List ℕ → ℕ → ℕ → ℕ → ℕ → List ℕ → ℕ → ℕ
-rowEntry digits row step place right lists j = entryPlace place right lists j * 16 + rowDigit digits row step right lists j
-
-pub record RowReady (digits : List ℕ) (row step place right count to : ℕ) (lists : List ℕ) : Type 0 where
+pub record RowReady (inner : Span) (digits : List ℕ) (row step place to : ℕ) (lists : List ℕ) : Type 0 where
   pub near : step ≤ mostLevels
-  pub right-there : right + count ≤ to
-  pub room : to + count ≤ length lists
-  pub digit-there : (j : ℕ) → j < count → row + getD lists (right + j) 0 % 16 * step < length digits
-  pub fits : (j : ℕ) → j < count → rowEntry digits row step place right lists j < entriesEnd
+  pub inner-there : inner .start + inner .count ≤ to
+  pub room : to + inner .count ≤ length lists
+  pub digit-there : (j : ℕ) → j < inner .count → row + getD lists (inner .start + j) 0 % 16 * step < length digits
+  pub fits : (j : ℕ) → j < inner .count → rowEntry inner digits row step place lists j < entriesEnd
 
-pub record PaintRowReady (digits : List ℕ) (row step place right count : ℕ) (lists cells : List ℕ) : Type 0 where
-  pub near : step ≤ mostLevels
-  pub right-there : right + count ≤ length lists
-  pub digit-there : (j : ℕ) → j < count → row + getD lists (right + j) 0 % 16 * step < length digits
-  pub room : (j : ℕ) → j < count → entryPlace place right lists j < length cells
+abbrev pub RowDone : Span → List ℕ → ℕ → ℕ → ℕ → ℕ → List ℕ → List ℕ → Type 0
+RowDone inner digits row step place to before after = Run to (inner .count) (rowEntry inner digits row step place before) before after
 
--- ---- pair p: its left and its right entry are the digits of p to the base `count`
+-- the gate's entry for the outer entry a and the inner entry b
+abbrev pub pairOf : Order → List ℕ → ℕ → ℕ → ℕ → ℕ
+pairOf o digits from a b = joinedEntry digits (from + a % 16 * o .wide) (o .step) (a / 16) b
 
-abbrev pub pairPlace : ℕ → ℕ → ℕ → List ℕ → ℕ → ℕ
-pairPlace left right count lists p = entryPlace (getD lists (left + p / count) 0 / 16) right lists (p % count)
+-- .. for entries i and j of the two lists
+abbrev pub pairEntry : Order → List ℕ → ℕ → List ℕ → ℕ → ℕ → ℕ
+pairEntry o digits from lists i j = pairOf o digits from (getD lists (o .outer .start + i) 0) (getD lists (o .inner .start + j) 0)
 
-abbrev pub pairDigit : ℕ → ℕ → List ℕ → ℕ → ℕ → ℕ → ℕ → List ℕ → ℕ → ℕ
-pairDigit wide step digits from left right count lists p = rowDigit digits (from + getD lists (left + p / count) 0 % 16 * wide) step right lists (p % count)
-
-abbrev pub pairEntry : ℕ → ℕ → List ℕ → ℕ → ℕ → ℕ → ℕ → List ℕ → ℕ → ℕ
-pairEntry wide step digits from left right count lists p = pairPlace left right count lists p * 16 + pairDigit wide step digits from left right count lists p
-
--- the digits of all pairs are there, and their places are below `bound`
-pub record PairsReady (wide step : ℕ) (digits : List ℕ) (from left many right count bound : ℕ) (lists : List ℕ) : Type 0 where
-  pub few : wide ≤ mostLevels
-  pub near : step ≤ mostLevels
+pub record JoinReady (o : Order) (digits : List ℕ) (from to : ℕ) (lists : List ℕ) : Type 0 where
+  pub outer-there : o .outer .start + o .outer .count ≤ to
+  pub inner-there : o .inner .start + o .inner .count ≤ to
+  pub room : to + o .outer .count * o .inner .count ≤ length lists
+  pub few : o .wide ≤ mostLevels
+  pub near : o .step ≤ mostLevels
   pub from-there : from ≤ length digits
-  pub digit-there : (i j : ℕ) → i < many → j < count → from + getD lists (left + i) 0 % 16 * wide + getD lists (right + j) 0 % 16 * step < length digits
-  pub digit-low : (i j : ℕ) → i < many → j < count → rowDigit digits (from + getD lists (left + i) 0 % 16 * wide) step right lists j < 16
-  pub place-low : (i j : ℕ) → i < many → j < count → entryPlace (getD lists (left + i) 0 / 16) right lists j < bound
+  pub digit-there : (i j : ℕ) → i < o .outer .count → j < o .inner .count
+      → from + getD lists (o .outer .start + i) 0 % 16 * o .wide + getD lists (o .inner .start + j) 0 % 16 * o .step < length digits
+  pub fits : (i j : ℕ) → i < o .outer .count → j < o .inner .count → pairEntry o digits from lists i j < entriesEnd
 
--- every pair has its entry in the list, or its value in its cell
-abbrev pub JoinDone : ℕ → ℕ → List ℕ → ℕ → ℕ → ℕ → ℕ → ℕ → ℕ → List ℕ → List ℕ → Type 0
-JoinDone wide step digits from left many right count to before after =
-    Run to (many * count) (pairEntry wide step digits from left right count before) before after
+-- the first i of the outer list have their entries, from `to` on
+pub record PairsJoined (o : Order) (digits : List ℕ) (from to : ℕ) (before : List ℕ) (i : ℕ) (after : List ℕ) : Type 0 where
+  pub same : length after ≡ length before
+  pub front : (q : ℕ) → q < to → getD after q 0 ≡ getD before q 0
+  pub there : (h j : ℕ) → h < i → j < o .inner .count → getD after (to + (h * o .inner .count + j)) 0 ≡ pairEntry o digits from before h j
 
-abbrev pub PaintRowDone : List ℕ → ℕ → ℕ → ℕ → ℕ → ℕ → List ℕ → List ℕ → List ℕ → Type 0
-PaintRowDone digits row step place right count lists before after =
-    Painted count (entryPlace place right lists) (rowDigit digits row step right lists) before after
-
-abbrev pub PaintDone : ℕ → ℕ → List ℕ → ℕ → ℕ → ℕ → ℕ → ℕ → List ℕ → List ℕ → List ℕ → Type 0
-PaintDone wide step digits from left many right count lists before after =
-    Painted (many * count) (pairPlace left right count lists) (pairDigit wide step digits from left right count lists) before after
-
--- pair number i * count + j
-module _ (wide step : ℕ) (digits : List ℕ) (from left right count i j : ℕ) (lists : List ℕ) (low : j < count) where
-  pub pair-place : entryPlace (getD lists (left + i) 0 / 16) right lists j ≡ pairPlace left right count lists (i * count + j)
-  pair-place = rw (digits-div i low, digits-mod i low)
-
-  pub pair-digit : rowDigit digits (from + getD lists (left + i) 0 % 16 * wide) step right lists j ≡ pairDigit wide step digits from left right count lists
-      (i * count + j)
-  pair-digit = rw (digits-div i low, digits-mod i low)
+pub joined-none : (o : Order) (digits : List ℕ) (from to : ℕ) (before : List ℕ) → PairsJoined o digits from to before 0 before
+joined-none o digits from to before = record { same = refl; front = λ q h. refl; there = λ h j none. absurd (omega arith) }
 
 pub pair-rows-more : (i count : ℕ) → i * count + count ≡ (i + 1) * count
 pair-rows-more i count = rw (add-one, suc-mul) (omega arith)
 
--- ---- into a list
+module _ (o : Order) (digits : List ℕ) (from to : ℕ) (before : List ℕ) (ready : JoinReady o digits from to before) (i at : ℕ) (turn : i < o .outer .count)
+    (is-at : at ≡ to + i * o .inner .count) (lists : List ℕ) (done : PairsJoined o digits from to before i lists) where
+  abbrev count : ℕ
+  count = o .inner .count
 
-pub record JoinReady (wide step : ℕ) (digits : List ℕ) (from left many right count to : ℕ) (lists : List ℕ) : Type 0 where
-  pub left-there : left + many ≤ to
-  pub right-there : right + count ≤ to
-  pub room : to + many * count ≤ length lists
-  pub pairs : PairsReady wide step digits from left many right count 4096 lists
-
-module _ (wide step : ℕ) (digits : List ℕ) (from left many right count to : ℕ) (before : List ℕ)
-    (ready : JoinReady wide step digits from left many right count to before)
-    (i at : ℕ) (turn : i < many) (is-at : at ≡ to + i * count) (lists : List ℕ)
-    (done : Run to (i * count) (pairEntry wide step digits from left right count before) before lists) where
   abbrev a : ℕ
-  a = getD lists (left + i) 0
+  a = getD lists (o .outer .start + i) 0
 
-  left-same : a ≡ getD before (left + i) 0
-  left-same = done .front (left + i) (omega (arith, ready .left-there))
+  outer-same : a ≡ getD before (o .outer .start + i) 0
+  outer-same = done .front (o .outer .start + i) (omega (arith, ready .outer-there))
 
-  right-same : (j : ℕ) → j < count → getD lists (right + j) 0 ≡ getD before (right + j) 0
-  right-same j h = done .front (right + j) (omega (arith, ready .right-there))
+  inner-same : (j : ℕ) → j < count → getD lists (o .inner .start + j) 0 ≡ getD before (o .inner .start + j) 0
+  inner-same j h = done .front (o .inner .start + j) (omega (arith, ready .inner-there))
 
   pub join-row-room : at + count ≤ length lists
   join-row-room = omega (arith, is-at, pair-rows-more i count, mul-le-mul-right count turn, ap (λ (k : ℕ). k * count) (add-one i), ready .room, done .same)
 
-  pub row-ready : RowReady digits (from + a % 16 * wide) step (a / 16) right count at lists
+  pub row-ready : RowReady (o .inner) digits (from + a % 16 * o .wide) (o .step) (a / 16) at lists
   row-ready =
       record {
-        near = ready .pairs .near;
-        right-there = omega (arith, is-at, ready .right-there);
+        near = ready .near;
+        inner-there = omega (arith, is-at, ready .inner-there);
         room = join-row-room;
-        digit-there = λ j h. rw (left-same, right-same j h) (ready .pairs .digit-there i j turn h);
-        fits = λ j h. rw (left-same, right-same j h) (omega (arith, ready .pairs .digit-low i j turn h, ready .pairs .place-low i j turn h));
+        digit-there = λ j h. rw (outer-same, inner-same j h) (ready .digit-there i j turn h);
+        fits = λ j h. rw (outer-same, inner-same j h) (ready .fits i j turn h);
       }
 
-  pub join-more : (after : List ℕ) → Run at count (rowEntry digits (from + a % 16 * wide) step (a / 16) right lists) lists after
-      → Run to ((i + 1) * count) (pairEntry wide step digits from left right count before) before after
-  join-more after row =
-      rw (sym (pair-rows-more i count))
-      (run-append to (i * count) count (pairEntry wide step digits from left right count before)
-      (rowEntry digits (from + a % 16 * wide) step (a / 16) right lists)
-      before lists after done (rw (sym is-at) row)
-      (λ j h. rw (left-same, right-same j h)
-      (ap₂ (λ (x y : ℕ). x * 16 + y) (pair-place wide step digits from left right count i j before h)
-      (pair-digit wide step digits from left right count i j before h))))
-
--- ---- into the cells
-
-pub record PaintReady (wide step : ℕ) (digits : List ℕ) (from left many right count : ℕ) (lists cells : List ℕ) : Type 0 where
-  pub left-there : left + many ≤ length lists
-  pub right-there : right + count ≤ length lists
-  pub pairs : PairsReady wide step digits from left many right count (length cells) lists
-
-module _ (wide step : ℕ) (digits : List ℕ) (from left many right count : ℕ) (lists before : List ℕ)
-    (ready : PaintReady wide step digits from left many right count lists before) (i : ℕ) (turn : i < many) (cells : List ℕ)
-    (done : Painted (i * count) (pairPlace left right count lists) (pairDigit wide step digits from left right count lists) before cells) where
-  abbrev b : ℕ
-  b = getD lists (left + i) 0
-
-  pub paint-row-ready : PaintRowReady digits (from + b % 16 * wide) step (b / 16) right count lists cells
-  paint-row-ready =
+  pub joined-more : (after : List ℕ) → RowDone (o .inner) digits (from + a % 16 * o .wide) (o .step) (a / 16) at lists after
+      → PairsJoined o digits from to before (i + 1) after
+  joined-more after row =
       record {
-        near = ready .pairs .near;
-        right-there = ready .right-there;
-        digit-there = λ j h. ready .pairs .digit-there i j turn h;
-        room = λ j h. rw (done .same) (ready .pairs .place-low i j turn h);
+        same = row .same ∙ done .same;
+        front = λ q h. row .front q (omega (arith, is-at)) ∙ done .front q h;
+        there = λ h j h< j<. go h j h< j< (ℕ-discrete h i);
       }
-
-  pub paint-more : (after : List ℕ) → Painted count (entryPlace (b / 16) right lists) (rowDigit digits (from + b % 16 * wide) step right lists) cells after
-      → Painted ((i + 1) * count) (pairPlace left right count lists) (pairDigit wide step digits from left right count lists) before after
-  paint-more after row =
-      rw (sym (pair-rows-more i count))
-      (painted-append (i * count) count _ _ _ _ before cells after done row (λ j h. pair-place wide step digits from left right count i j lists h)
-      (λ j h. pair-digit wide step digits from left right count i j lists h))
+    where
+      go : (h j : ℕ) → h < i + 1 → j < count → Dec (h ≡ i) → getD after (to + (h * count + j)) 0 ≡ pairEntry o digits from before h j
+      go h j h< j< (yes e) =
+          let place : to + (i * count + j) ≡ at + j = omega (arith, is-at) in
+          rw (e, place) (row .there j j< ∙ ap₂ (pairOf o digits from) outer-same (inner-same j j<))
+      go h j h< j< (no other) =
+          let less : h < i = omega arith in
+          row .front _ (omega (arith, is-at, digits-lt less j<)) ∙ done .there h j less j<

@@ -1,7 +1,7 @@
 -- A run of cells is overwritten, and all others are unchanged.
 -- Assumes nothing.
-use Rattle.laws.specs.Prelude.{ℕ, _<_, _≤_, _+_, _-_, _≡_, _∙_, sym, ap, refl, List, decLt, ℕ-discrete, arith, length, getD, set, length-set}
-use Rattle.laws.specs.Prelude.{getD-set-same, getD-set-other}
+use Rattle.laws.specs.Prelude.{ℕ, _<_, _≤_, _+_, _≡_, _∙_, sym, refl, List, ℕ-discrete, arith, length, getD, set, length-set, getD-set-same}
+use Rattle.laws.specs.Prelude.{getD-set-other}
 
 -- the `count` cells from `at` on are the values of f, and the others are unchanged
 pub record Run (at count : ℕ) (f : ℕ → ℕ) (before after : List ℕ) : Type 0 where
@@ -27,23 +27,6 @@ column-run-more at p f before after v run room is =
     go : (q : ℕ) → q < p + 1 → Dec (q ≡ p) → getD (set after (at + p) v) (at + q) 0 ≡ f q
     go q h (yes e) = rw e (getD-set-same after (at + p) v 0 (omega (arith, run .same)) ∙ is)
     go q h (no other) = getD-set-other after (at + p) (at + q) v 0 (λ e. other (omega arith)) ∙ run .there q (omega arith)
-
--- a run after another
-pub run-append : (base at count : ℕ) (f g : ℕ → ℕ) (before middle after : List ℕ) → Run base at f before middle → Run (base + at) count g middle after
-    → ((p : ℕ) → p < count → g p ≡ f (at + p)) → Run base (at + count) f before after
-run-append base at count f g before middle after one two each =
-    record {
-      same = two .same ∙ one .same;
-      front = λ q h. two .front q (omega arith) ∙ one .front q h;
-      back = λ q h. two .back q (omega arith) ∙ one .back q (omega arith);
-      there = λ p h. go p h (decLt p at);
-    }
-  where
-    go : (p : ℕ) → p < at + count → Dec (p < at) → getD after (base + p) 0 ≡ f p
-    go p h (yes l) = two .front (base + p) (omega arith) ∙ one .there p l
-    go p h (no l) = let e : base + p ≡ base + at + (p - at) = omega arith in
-        let e′ : at + (p - at) ≡ p = omega arith in
-        ap (λ (q : ℕ). getD after q 0) e ∙ two .there (p - at) (omega arith) ∙ each (p - at) (omega arith) ∙ ap f e′
 
 -- all cells are written
 pub run-all : (at p count : ℕ) (f : ℕ → ℕ) (before after : List ℕ) → p ≤ count → count ≤ p → Run at p f before after → Run at count f before after

@@ -1,29 +1,34 @@
--- A net's wires: the group, the value and the number of entries of each.
+-- A net's wires: the group, the value, and the place and number of entries of each.
 -- Assumes nothing.
-use Rattle.laws.specs.Prelude.{ℕ, _<_, _≤_, _+_, _-_, _^_, suc, _*_, zero, _≡_, _∙_, sym, ap, refl, ap₂, List, [], _∷_, map, List·Memᴰ, List·Memᴰ·head}
-use Rattle.laws.specs.Prelude.{List·Memᴰ·tail, map-map, zero-add, add-zero, pow-suc, pow-zero, pow-le-pow-right, mul-one, add-assoc, add-mul, mul-zero}
-use Rattle.laws.specs.Prelude.{one-mul, mul-le-mul-left, mul-suc, add-one, arith, length, getD, drop, getD-take, getD-drop, digits-lt, pow-add}
+use Rattle.laws.specs.Prelude.{ℕ, _<_, _≤_, _+_, _-_, _^_, suc, _*_, zero, _≡_, _∙_, sym, ap, ap₂, List, [], _∷_, map, zero-add, add-zero, pow-suc, pow-zero}
+use Rattle.laws.specs.Prelude.{pow-le-pow-right, mul-le-mul, mul-one, add-assoc, add-mul, zero-mul, suc-mul, one-mul, mul-le-mul-left, add-one, arith, length}
+use Rattle.laws.specs.Prelude.{getD, drop, getD-take, getD-drop, digits-lt, pow-add}
 use Rattle.rules.specs.Lists.{range, total}
+use Rattle.rules.specs.Limits.{mostLevels, mostInputs, mostCells}
 use Rattle.rules.specs.Sheets.Sheets.{usedBy}
 use Rattle.rules.specs.Groups.Groups.{size}
-use Rattle.rules.specs.Nets.Arrivals.{usedInputs}
 use Rattle.rules.specs.Nets.Wirings.{groupOf}
 use Rattle.rules.specs.Nets.Trees.{Tree, leaf, node, wiringIn, treeValue, EachOnce, Apart}
 use Rattle.laws.specs.Lists.Concat.{map-append}
-use Rattle.laws.specs.Lists.Ranges.{range-append, range-suc, map-range, map-range-suc, map-range-length}
+use Rattle.laws.specs.Lists.Ranges.{range-length, range-append, range-suc, map-range-suc, map-range-length}
 use Rattle.laws.specs.Lists.Totals.{total-parts}
 use Rattle.laws.specs.Lists.WithEach.{with-each-append, with-each-length, with-each-earlier, with-each-last}
 use Rattle.trees.specs.Groups.Joins.{Over}
-use Rattle.trees.specs.Groups.Members.{size-join, size-le, size-pos}
+use Rattle.trees.specs.Groups.Members.{size-join, size-le, size-pos, size-single}
 use Rattle.trees.specs.Trees.Forest.{treeAt, joinedTree, withTrees, inputTrees, inputs-length}
 use Rattle.trees.specs.Trees.Homes.{Grown, groupAt, grown-inputs, grown-gates}
-use Rattle.trees.specs.Trees.UsedOnce.{used-sum, listed-used, used-inputs-length}
+use Rattle.trees.specs.Trees.UsedOnce.{used-sum}
 use Rattle.trees.specs.Trees.Wirings.{group-below, group-some, tree-below, tree-part}
 use Rattle.nets.specs.declared.forms.Net.{Net}
 use Rattle.nets.specs.Forms.{gateOf, gatesOf}
 use Rattle.nets.specs.References.{GateStep, gate-step}
 use Rattle.nets.specs.Tables.{digits-within}
 use Rattle.nets.specs.Sound.{Sound, sound-size, net-levels-pos, gates-length, gates-pos}
+use Rattle.evaluation.specs.declared.lists.order.Span.{Span}
+
+-- room for the lists of every net, but for the last gate's
+abbrev pub listRoom : ℕ
+listRoom = mostCells + mostInputs * mostLevels
 
 -- the trees of all wires
 abbrev pub forestOf : Net → List Tree
@@ -39,27 +44,31 @@ wireValue net j x = treeValue (net .levels) (net .inputs) (treeAt (forestOf net)
 abbrev pub wireCount : Net → ℕ → ℕ
 wireCount net j = net .levels ^ size (net .inputs) (wireGroup net j)
 
--- that of the first k gates
-abbrev pub gateEntries : Net → ℕ → ℕ
-gateEntries net k = total (map (λ i. wireCount net (net .inputs + i)) (range 0 k))
+-- that of some wires together
+abbrev entriesOf : Net → List ℕ → ℕ
+entriesOf net js = total (map (wireCount net) js)
+
+-- where its list begins: one list follows the other
+abbrev pub wireStart : Net → ℕ → ℕ
+wireStart net j = entriesOf net (range 0 j)
+
+abbrev pub spanOf : Net → ℕ → Span
+spanOf net j = record { start = wireStart net j; count = wireCount net j; group = wireGroup net j }
 
 -- two numbers from 2 on
-pub sum-product : (x y : ℕ) → 2 ≤ x → 2 ≤ y → 2 * x + 2 * y ≤ x * y + 4
+sum-product : (x y : ℕ) → 2 ≤ x → 2 ≤ y → 2 * x + 2 * y ≤ x * y + 4
 sum-product x y h k =
     let e : 2 + (x - 2) ≡ x = omega arith in
     omega (arith, sym (add-mul 2 (x - 2) y) ∙ ap (λ (z : ℕ). z * y) e, mul-le-mul-left (x - 2) k)
 
--- a sum of numbers, each k or more
-total-least : (k : ℕ) (f : ℕ → ℕ) (xs : List ℕ) → ((x : ℕ) → List·Memᴰ x xs → k ≤ f x) → k * length xs ≤ total (map f xs)
-unfolding total
-total-least k f [] each = omega (arith, mul-zero k)
-total-least k f (x ∷ xs) each = rw mul-suc (omega (arith, each x (List·Memᴰ·head refl), total-least k f xs (λ y is. each y (List·Memᴰ·tail is))))
+-- twice a wire's entries, without 4
+spare : Net → ℕ → ℕ
+spare net j = 2 * wireCount net j - 4
 
--- a sum of numbers twice
-total-twice : (f : ℕ → ℕ) (xs : List ℕ) → total (map (λ x. 2 * f x) xs) ≡ 2 * total (map f xs)
-unfolding total
-total-twice f [] = refl
-total-twice f (x ∷ xs) = omega (arith, total-twice f xs)
+total-spare : (net : Net) (js : List ℕ) → 2 * entriesOf net js ≤ total (map (spare net) js) + 4 * length js
+unfolding total spare
+total-spare net [] = omega arith
+total-spare net (j ∷ js) = omega (arith, total-spare net js)
 
 module _ (net : Net) (sound : Sound net) where
   abbrev m : ℕ
@@ -93,6 +102,13 @@ module _ (net : Net) (sound : Sound net) where
 
   pub input-tree : (i : ℕ) → i < n → treeAt (forestOf net) i ≡ leaf i
   input-tree = grown .inputs
+
+  pub input-group : (i : ℕ) → i < n → wireGroup net i ≡ 2 ^ i
+  unfolding groupOf
+  input-group i h = rw (input-tree i h)
+
+  pub input-count : (i : ℕ) → i < n → wireCount net i ≡ m
+  input-count i h = rw (input-group i h, size-single i n h, pow-suc, pow-zero, one-mul)
 
   module _ (j : ℕ) (j< : j < n + net .gates) where
     wire-once : EachOnce n (wiringIn (treeAt (forestOf net) j))
@@ -170,46 +186,72 @@ module _ (net : Net) (sound : Sound net) where
         ∙ ap (λ (c : ℕ). m ^ c) (size-join n (wireGroup net l) (wireGroup net r) (wire-below l (omega arith)) (wire-below r (omega arith)) gate-apart)
         ∙ pow-add m (size n (wireGroup net l)) (size n (wireGroup net r))
 
-  -- ---- the entries of all gates but the last
+  -- ---- where the lists begin
 
-  pub entries-more : (k : ℕ) → gateEntries net (k + 1) ≡ gateEntries net k + wireCount net (n + k)
+  pub start-more : (j : ℕ) → wireStart net (j + 1) ≡ wireStart net j + wireCount net j
   unfolding total
-  entries-more k =
-      rw (add-one, range-suc) (total-parts (λ i. wireCount net (n + i)) (range 0 k) ((0 + k) ∷ []) ∙ rw zero-add (omega arith))
+  start-more j = rw (add-one, range-suc) (total-parts (wireCount net) (range 0 j) ((0 + j) ∷ []) ∙ rw zero-add (omega arith))
 
-  pub entries-grow : (k j : ℕ) → gateEntries net k ≤ gateEntries net (k + j)
-  entries-grow k j = rw range-append (omega (arith, total-parts (λ i. wireCount net (n + i)) (range 0 k) (range (0 + k) j)))
+  starts-parts : (j k : ℕ) → wireStart net (j + k) ≡ wireStart net j + entriesOf net (range j k)
+  starts-parts j k = rw range-append (total-parts (wireCount net) (range 0 j) (range (0 + j) k) ∙ rw zero-add)
 
-  -- twice the entries of all references
-  twice : ℕ → ℕ
-  twice j = 2 * wireCount net j
+  -- a list ends before a later one
+  pub starts-rise : (i j : ℕ) → i < j → wireStart net i + wireCount net i ≤ wireStart net j
+  starts-rise i j h =
+      let e : i + 1 + (j - (i + 1)) ≡ j = omega arith in
+      omega (arith, start-more i, ap (wireStart net) (sym e) ∙ starts-parts (i + 1) (j - (i + 1)))
+
+  pub input-start : (i : ℕ) → i ≤ n → wireStart net i ≡ i * m
+  unfolding total range
+  input-start zero h = sym (zero-mul m)
+  input-start (suc i) h =
+      ap (wireStart net) (sym (add-one i)) ∙ start-more i ∙ rw suc-mul (omega (arith, input-start i (omega arith), input-count i (omega arith)))
 
   used-most : (from count : ℕ) → from + count ≤ net .gates
-      → total (map twice (usedBy (map (gateOf net) (range from count)))) ≤ total (map (λ i. wireCount net (n + i)) (range from count)) + 4 * count
-  unfolding total range usedBy gateOf twice
+      → total (map (spare net) (usedBy (map (gateOf net) (range from count)))) + 4 * count ≤ entriesOf net (range (n + from) count)
+  unfolding total range usedBy gateOf spare
   used-most from zero h = omega arith
   used-most from (suc count) h =
       let turn : from < net .gates = omega arith in
       let step : GateStep net from = gate-step net sound from turn in
+      let e : n + suc from ≡ suc (n + from) = omega arith in
+      let l-two = wire-two (getD (net .left) from 0) (omega arith) in
+      let r-two = wire-two (getD (net .right) from 0) (omega arith) in
+      omega (arith, rw e at (used-most (suc from) count (omega arith)), wire-count-join from turn, sum-product _ _ l-two r-two, l-two, r-two)
+
+  -- the last gate has more entries than all other gates together
+  entries-fit : entriesOf net (range n (net .gates - 1)) + 4 ≤ wireCount net (n + (net .gates - 1))
+  unfolding gatesOf total
+  entries-fit =
+      let e : suc (net .gates - 1) ≡ net .gates = omega (arith, gates-pos net sound) in
+      let js = range n (net .gates - 1) in
+      let all : entriesOf net (range n (net .gates)) ≡ entriesOf net js + wireCount net (n + (net .gates - 1)) =
+      ap (λ (c : ℕ). entriesOf net (range n c)) (sym e) ∙ rw range-suc (total-parts (wireCount net) js ((n + (net .gates - 1)) ∷ []) ∙ omega arith) in
+      let used = ap (λ (c : ℕ). total (map (spare net) (range n (c - 1)))) (gates-length net) in
       omega (
         arith,
-        used-most (suc from) count (omega arith),
-        wire-count-join from turn,
-        sum-product (wireCount net (getD (net .left) from 0)) (wireCount net (getD (net .right) from 0)) (wire-two _ (omega arith)) (wire-two _ (omega arith)),
+        used-sum (spare net) m n (gatesOf net) (sound .gates),
+        used,
+        rw add-zero at (used-most 0 (net .gates) (omega arith)),
+        total-spare net js,
+        range-length n (net .gates - 1),
       )
 
-  pub entries-fit : gateEntries net (net .gates - 1) + 4 ≤ wireCount net (n + (net .gates - 1))
-  unfolding gatesOf twice
-  entries-fit =
-      let last : net .gates - 1 + 1 ≡ net .gates = omega (arith, gates-pos net sound) in
-      let all : gateEntries net (net .gates) ≡ gateEntries net (net .gates - 1) + wireCount net (n + (net .gates - 1)) =
-      ap (gateEntries net) (sym last) ∙ entries-more (net .gates - 1) in
-      let shift : range n (net .gates - 1) ≡ map (λ i. n + i) (range 0 (net .gates - 1)) = sym (map-range n 0 (net .gates - 1) ∙ rw add-zero) in
-      let rest : total (map twice (range n (length (gatesOf net) - 1))) ≡ 2 * gateEntries net (net .gates - 1) =
-      ap (λ (c : ℕ). total (map twice (range n (c - 1)))) (gates-length net) ∙ ap (λ (xs : List ℕ). total (map twice xs)) shift
-      ∙ ap total (map-map twice (λ i. n + i) (range 0 (net .gates - 1))) ∙ total-twice (λ i. wireCount net (n + i)) (range 0 (net .gates - 1)) in
-      let inputs : 4 * length (usedInputs n (gatesOf net)) ≤ total (map twice (usedInputs n (gatesOf net))) =
-      total-least 4 twice (usedInputs n (gatesOf net)) (λ x is. omega (arith, wire-two x (omega (arith, listed-used n (gatesOf net) x is .0)))) in
-      let used = used-sum twice m n (gatesOf net) (sound .gates) in
-      let most : total (map twice (usedBy (gatesOf net))) ≤ gateEntries net (net .gates) + 4 * net .gates = used-most 0 (net .gates) (omega arith) in
-      omega (arith, used-inputs-length m n (gatesOf net) (sound .gates), gates-length net)
+  -- all lists before the last gate's fit
+  pub starts-fit : (j : ℕ) → j ≤ n + (net .gates - 1) → wireStart net j ≤ listRoom
+  starts-fit j h =
+      let k = net .gates - 1 in
+      let e : j + (n + k - j) ≡ n + k = omega arith in
+      let size = sound-size net sound in
+      let inputs : n * m ≤ mostInputs * mostLevels = mul-le-mul (size .inputs-most) (size .levels-most) in
+      let last : n + k < n + net .gates = omega (arith, gates-pos net sound) in
+      omega (
+        arith,
+        ap (wireStart net) (sym e) ∙ starts-parts j (n + k - j),
+        starts-parts n k,
+        input-start n (omega arith),
+        entries-fit,
+        wire-most (n + k) last,
+        size .cells-most,
+        inputs,
+      )

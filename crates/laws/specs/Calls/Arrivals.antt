@@ -1,11 +1,11 @@
 -- The result of the call for arrival times, one law for each outcome.
 -- Assumes nothing.
 use Rattle.laws.specs.Prelude.{ℕ, _≡_, List}
-use Rattle.rules.specs.Sheets.Sheets.{Net}
 use Rattle.rules.specs.Calls.Answers.{accepted, refused}
-use Rattle.rules.specs.Sheets.Reading.{readNet}
-use Rattle.rules.specs.Sheets.ArrivalSheet.{Arrival, readArrivals}
 use Rattle.rules.specs.Nets.Arrivals.{settles, netRefused, arrivalsRefused, endsOf, arrivalsCall}
+use Rattle.rules.specs.Sheets.Reading.{readNet}
+use Rattle.rules.specs.Sheets.Sheets.{Net}
+use Rattle.rules.specs.Sheets.ArrivalSheet.{Arrival, readArrivals}
 
 module _ (s r : List ℕ) (delay : ℕ) where
   pub arrivals-net-refused : (number place : ℕ) → readNet s ≡ refused number place → arrivalsCall s r delay ≡ netRefused number place

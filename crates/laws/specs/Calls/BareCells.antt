@@ -1,11 +1,11 @@
 -- The verdict on bare cells, one law for each outcome, and what follows if they are accepted.
 -- Assumes nothing.
 use Rattle.laws.specs.Prelude.{ℕ, _<_, _≤_, _^_, _≡_, _∙_, sym, ap, refl, true, false, Bool, not, and-false, List, arith, eqb, leb, length, getD}
-use Rattle.laws.specs.Prelude.{eq-eqb, eqb-true, ne-eqb, lt-ltb, le-ltb, eqb-false, le-leb}
-use Rattle.rules.specs.Lists.{all, firstPlace}
+use Rattle.laws.specs.Prelude.{eq-eqb, eqb-true, ne-eqb, lt-ltb, le-ltb, eqb-false, le-leb, test-cases}
 use Rattle.rules.specs.Limits.{sizeFits}
-use Rattle.rules.specs.Sheets.Sheets.{Table}
+use Rattle.rules.specs.Lists.{all, firstPlace}
 use Rattle.rules.specs.Sheets.SheetRules.{TableRules}
+use Rattle.rules.specs.Sheets.Sheets.{Table}
 use Rattle.rules.specs.Calls.Answers as answers
 use Rattle.rules.specs.Calls.BareCells.{bareCells}
 use Rattle.laws.specs.Calls.Answers.{not-refused}
@@ -55,15 +55,13 @@ module _ (m n : ℕ) (cells : List ℕ) where
   -- .. and no cell is above m
   pub bare-inks : answers.accepted tt ≡ bareCells m n cells → all (λ c. leb c m) cells ≡ true
   unfolding bareCells
-  bare-inks e = go (all (λ c. leb c m) cells) refl
-    where
-      go : (t : Bool) → all (λ c. leb c m) cells ≡ t → all (λ c. leb c m) cells ≡ true
-      go true h = h
-      go false h =
-          let (fits, count) = bare-accepted e in
-          let back : bareCells m n cells ≡ answers.refused 10 (firstPlace (λ c. not (leb c m)) cells) =
-          rw (fits, eq-eqb (length cells) (m ^ n) count, h, bareCells) in
-          absurd (not-refused tt 10 _ (e ∙ back))
+  bare-inks e = test-cases (all (λ c. leb c m) cells)
+      (λ h. h)
+      (λ h.
+      let (fits, count) = bare-accepted e in
+      let back : bareCells m n cells ≡ answers.refused 10 (firstPlace (λ c. not (leb c m)) cells) =
+      rw (fits, eq-eqb (length cells) (m ^ n) count, h, bareCells) in
+      absurd (not-refused tt 10 _ (e ∙ back)))
 
 -- the inks of a table that follows the rules are accepted as bare cells
 pub bare-kept : (t : Table) → TableRules t → bareCells (t .header .levels) (t .header .inputs) (t .inks) ≡ answers.accepted tt

@@ -1,11 +1,11 @@
 -- Two nets made of one table, whose sheets have the same length: the calls that make them have the same result except for the sheet in the output.
 -- Assumes nothing.
-use Rattle.laws.specs.Prelude.{ℕ, _<_, _≡_, ap, refl, List, decLt, ℕ-discrete, arith, length}
-use Rattle.rules.specs.Sheets.Sheets.{Net, Table}
-use Rattle.rules.specs.Sheets.Printed.{printedNet}
-use Rattle.rules.specs.Groups.Marks.{storedMarks}
+use Rattle.laws.specs.Prelude.{ℕ, _≡_, ap, refl, List, decLt, ℕ-discrete, arith, length}
 use Rattle.rules.specs.Calls.Answers.{Answer, accepted, refused, written}
 use Rattle.rules.specs.Calls.Settling.{Made, writtenSheet, roomFor, madeInto}
+use Rattle.rules.specs.Groups.Marks.{storedMarks}
+use Rattle.rules.specs.Sheets.Printed.{printedNet}
+use Rattle.rules.specs.Sheets.Sheets.{Net, Table}
 use Rattle.laws.specs.Calls.Answers.{not-refused}
 use Rattle.laws.specs.Calls.Settling.{WholeTwo, marksOfTable, into-refused, into-room, marked-16, marked-tree, sheet-15, sheet-written}
 
@@ -23,13 +23,12 @@ but-none made = record { answer = refl; cells = refl; marks = refl; output = λ 
 -- two sheets of the same length
 pub sheets-but : (sheet other cells marks output : List ℕ) → length sheet ≡ length other
     → ButSheet (writtenSheet sheet cells marks output) (writtenSheet other cells marks output)
-sheets-but sheet other cells marks output long = go (decLt (length output) (length sheet))
-  where
-    go : Dec (length output < length sheet) → ButSheet (writtenSheet sheet cells marks output) (writtenSheet other cells marks output)
-    go (yes short) = rw (sheet-15 sheet cells marks output short, sheet-15 other cells marks output (omega arith), long) (but-none _)
-    go (no room) =
-        rw (sheet-written sheet cells marks output (omega arith), sheet-written other cells marks output (omega arith))
-        (record { answer = ap accepted long; cells = refl; marks = refl; output = λ number place e. absurd (not-refused _ number place e) })
+sheets-but sheet other cells marks output long = elim (decLt (length output) (length sheet)) [
+  | yes short ↦ rw (sheet-15 sheet cells marks output short, sheet-15 other cells marks output (omega arith), long) (but-none _)
+  | no room ↦
+      rw (sheet-written sheet cells marks output (omega arith), sheet-written other cells marks output (omega arith))
+      (record { answer = ap accepted long; cells = refl; marks = refl; output = λ number place e. absurd (not-refused _ number place e) })
+]
 
 module _ (netFor other : Table → Net) (t : Table) (cells marks output : List ℕ) where
   -- if there is a tree, the two sheets have the same length

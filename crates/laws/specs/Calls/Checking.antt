@@ -2,12 +2,13 @@
 -- Assumes nothing.
 use Rattle.laws.specs.Prelude.{ℕ, _<_, _≤_, _≡_, _∙_, refl, subst, ap₂, subst⁻¹, true, false, Bool, _&&_, not, and-eq-true-iff, false≢true, List, []}
 use Rattle.laws.specs.Prelude.{_∷_, zero-add, decLt, arith, eqb, length, getD, eq-eqb, eqb-true, lt-ltb, le-ltb, eqb-false, not-true, not-false}
-use Rattle.rules.specs.Sheets.Sheets.{Header, Net, Table}
+use Rattle.laws.specs.Prelude.{by-cases}
 use Rattle.rules.specs.Calls.Answers.{accepted, refused, written, netNamed, tableNamed, neither}
-use Rattle.rules.specs.Sheets.Reading.{readNet, readTable, tableOfNet}
-use Rattle.rules.specs.Calls.OpenCells.{isOpen}
 use Rattle.rules.specs.Calls.Checking.{turnedDown, checkCall, sameNames, sameHeader, compared, checkedInto, agree, differ}
+use Rattle.rules.specs.Calls.OpenCells.{isOpen}
 use Rattle.rules.specs.Lists.{range, firstPlace, same}
+use Rattle.rules.specs.Sheets.Reading.{readNet, readTable, tableOfNet}
+use Rattle.rules.specs.Sheets.Sheets.{Header, Net, Table}
 use Rattle.laws.specs.Calls.OpenCells.{not-open, shut-ink}
 use Rattle.laws.specs.Lists.FirstPlaces.{before-first, at-first}
 use Rattle.laws.specs.Lists.Ranges.{range-length, range-at}
@@ -122,8 +123,6 @@ module _ (m : ℕ) (xs ys : List ℕ) where
 
   pub comparison : Compared m xs ys
   unfolding compared place firstDifference differs
-  comparison = go (decLt place (length xs))
-    where
-      go : Dec (place < length xs) → Compared m xs ys
-      go (yes h) = let (shut, ne) = there h in first-differs place (rw (lt-ltb place (length xs) h, compared)) h shut ne (λ p l. before p l (omega arith))
-      go (no h) = all-agree (rw (le-ltb place (length xs) (omega arith), compared)) (λ p l. before p (omega arith) l)
+  comparison = by-cases (decLt place (length xs))
+      (λ h. let (shut, ne) = there h in first-differs place (rw (lt-ltb place (length xs) h, compared)) h shut ne (λ p l. before p l (omega arith)))
+      (λ h. all-agree (rw (le-ltb place (length xs) (omega arith), compared)) (λ p l. before p (omega arith) l))

@@ -1,13 +1,13 @@
 -- The results of the two calls over a table's family of trees, one law for each outcome.
 -- Assumes nothing.
 use Rattle.laws.specs.Prelude.{ℕ, _<_, _≤_, _^_, _≡_, List, length, lt-ltb, le-ltb}
-use Rattle.rules.specs.Sheets.Sheets.{Table}
-use Rattle.rules.specs.Sheets.Printed.{printedNet}
-use Rattle.rules.specs.Groups.Marks.{marksLength, storedMarks}
 use Rattle.rules.specs.Calls.Answers.{accepted, refused, written}
+use Rattle.rules.specs.Calls.FamilyCalls.{countOfTable, familyNet, countedInto, familyCountCall, afterCount, numberedInto, familyTreeCall}
 use Rattle.rules.specs.Calls.OpenCells.{readFull}
 use Rattle.rules.specs.Calls.Settling.{roomFor, writtenSheet}
-use Rattle.rules.specs.Calls.FamilyCalls.{countOfTable, familyNet, countedInto, familyCountCall, afterCount, numberedInto, familyTreeCall}
+use Rattle.rules.specs.Groups.Marks.{marksLength, storedMarks}
+use Rattle.rules.specs.Sheets.Printed.{printedNet}
+use Rattle.rules.specs.Sheets.Sheets.{Table}
 use Rattle.laws.specs.Calls.Settling.{marksOfTable, room-13, room-14, room-both}
 
 -- ---- the count

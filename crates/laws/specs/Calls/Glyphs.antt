@@ -2,11 +2,11 @@
 -- Assumes nothing.
 use Rattle.laws.specs.Prelude.{ℕ, _<_, _≤_, _*_, _≡_, _↔_, true, false, _&&_, and-eq-true-iff, List, eqb, ltb, leb, length, getD, eq-eqb, eqb-true}
 use Rattle.laws.specs.Prelude.{lt-ltb, le-ltb, le-leb, leb-true, ltb-true}
-use lib.IntN.{ℤ, pos, natAbs}
-use Rattle.rules.specs.Lists.{all}
-use Rattle.rules.specs.Sheets.Sheets.{Net}
 use Rattle.rules.specs.Calls.Answers.{accepted, refused, written}
+use Rattle.rules.specs.Lists.{all}
 use Rattle.rules.specs.Sheets.Reading.{readNet}
+use Rattle.rules.specs.Sheets.Sheets.{Net}
+use lib.IntN.{ℤ, pos, natAbs}
 use Rattle.rules.specs.Calls.Glyphs.{mostSide, mostOffset, glyph, sideFits, pictureFits, offsetsFit, glyphJudged, glyphInto, glyphCall}
 use Rattle.laws.specs.Lists.Places.{mem-getD}
 use Rattle.laws.specs.Lists.Tests.{all-mem, all-each, both-leb}

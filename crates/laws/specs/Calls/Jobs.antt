@@ -1,11 +1,11 @@
 -- The results of opening a job, stepping, asking and finishing, one law for each outcome.
 -- Assumes nothing.
 use Rattle.laws.specs.Prelude.{ℕ, _<_, _≤_, _-_, _^_, _≡_, _∙_, or-true, List, eqb, eq-eqb, ne-eqb, lt-ltb, le-ltb, le-leb, lt-leb}
-use Rattle.rules.specs.Sheets.Sheets.{Table}
-use Rattle.rules.specs.Groups.Marks.{markIn}
 use Rattle.rules.specs.Calls.Answers.{accepted, onward, refused}
 use Rattle.rules.specs.Calls.OpenCells.{fullCells, readFull}
 use Rattle.rules.specs.Calls.Settling.{settledNet, madeInto}
+use Rattle.rules.specs.Groups.Marks.{markIn}
+use Rattle.rules.specs.Sheets.Sheets.{Table}
 use Rattle.rules.specs.Calls.Jobs.{Job, groupsOf, newJob, emptyJob, openJob, further, stepJob, final, notReached, reachedIn, askJob, mayFinish, finishJob}
 
 -- ---- opening

@@ -1,13 +1,13 @@
 -- The result of keeping a wiring, one law for each outcome.
 -- Assumes nothing.
 use Rattle.laws.specs.Prelude.{ℕ, _<_, _≤_, suc, _≡_, true, false, List, length, lt-ltb, le-ltb}
-use Rattle.rules.specs.Sheets.Sheets.{Net, Table}
-use Rattle.rules.specs.Sheets.Printed.{printedNet}
 use Rattle.rules.specs.Calls.Answers.{accepted, refused, written, netNamed, tableNamed, neither}
-use Rattle.rules.specs.Sheets.Reading.{readNet, readTable}
-use Rattle.rules.specs.Calls.OpenCells.{fullTable}
 use Rattle.rules.specs.Calls.Checking.{sameHeader}
 use Rattle.rules.specs.Calls.Keeping.{keptNet, roomyBefore, leavesOut, changedGates, rewritten, turnedAway, keptInto, keepCall}
+use Rattle.rules.specs.Calls.OpenCells.{fullTable}
+use Rattle.rules.specs.Sheets.Printed.{printedNet}
+use Rattle.rules.specs.Sheets.Reading.{readNet, readTable}
+use Rattle.rules.specs.Sheets.Sheets.{Net, Table}
 
 module _ (s r cells output : List ℕ) where
   pub keep-net-refused : (number place : ℕ) → readNet s ≡ refused number place

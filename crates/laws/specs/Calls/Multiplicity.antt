@@ -1,19 +1,18 @@
 -- The result of the multiplicity call, one law for each outcome.
 -- Assumes nothing.
 use Rattle.laws.specs.Prelude.{ℕ, _<_, _≤_, _^_, _≡_, true, false, _||_, or-true, List, eqb, leb, eq-eqb, ne-eqb, le-leb, lt-leb}
-use Rattle.rules.specs.Groups.Groups.{multiplicity}
-use Rattle.rules.specs.Calls.Answers as answers
 use Rattle.rules.specs.Calls.Answers.{inkIn}
 use Rattle.rules.specs.Calls.OpenCells.{fullCells}
+use Rattle.rules.specs.Groups.Groups.{multiplicity}
+use Rattle.rules.specs.Calls.Answers as answers
 use Rattle.rules.specs.Calls.Multiplicity.{multiplicityCall}
 
 -- the multiplicity call once the bare cells are accepted and full
 unfoldable pub groupAnswer : ℕ → ℕ → List ℕ → ℕ → answers.Answer ℕ
-groupAnswer m n cells g =
-    elim (eqb g 0 || leb (2 ^ n) g) [
-      | true ↦ answers.refused 11 0
-      | false ↦ answers.accepted (multiplicity m n (inkIn cells) g)
-    ]
+groupAnswer m n cells g = elim (eqb g 0 || leb (2 ^ n) g) [
+  | true ↦ answers.refused 11 0
+  | false ↦ answers.accepted (multiplicity m n (inkIn cells) g)
+]
 
 module _ (m n : ℕ) (cells : List ℕ) where
   pub multiplicity-refused : (g number place : ℕ) → answers.refused number place ≡ fullCells m n cells

@@ -1,17 +1,17 @@
 -- The result of requiring a table without open cells: 27 at the lowest open index, or no cell is open. One law for each outcome, for a
 -- list of cells, for bare cells and for a table sheet.
 -- Assumes nothing.
-use Rattle.laws.specs.Prelude.{ℕ, _<_, _≤_, _^_, _≡_, _∙_, sym, refl, true, false, List, decLt, arith, length, getD, eq-eqb, eqb-true, ne-eqb}
-use Rattle.laws.specs.Prelude.{lt-ltb, le-ltb, eqb-false, leb-true}
-use Rattle.rules.specs.Lists.{firstPlace}
-use Rattle.rules.specs.Limits.{sizeFits}
-use Rattle.rules.specs.Sheets.Sheets.{Table}
-use Rattle.rules.specs.Sheets.SheetRules.{TableRules, FullTable}
-use Rattle.rules.specs.Calls.Answers as answers
+use Rattle.laws.specs.Prelude.{ℕ, _<_, _≤_, _^_, _≡_, _∙_, sym, refl, true, false, List, decLt, arith, length, getD, eq-eqb, eqb-true, ne-eqb, lt-ltb}
+use Rattle.laws.specs.Prelude.{le-ltb, eqb-false, leb-true}
 use Rattle.rules.specs.Calls.Answers.{accepted, refused, onward}
-use Rattle.rules.specs.Sheets.Reading.{readTable}
-use Rattle.rules.specs.Calls.BareCells.{bareCells}
 use Rattle.rules.specs.Calls.OpenCells.{isOpen, full, fullCells, fullTable, readFull}
+use Rattle.rules.specs.Limits.{sizeFits}
+use Rattle.rules.specs.Lists.{firstPlace}
+use Rattle.rules.specs.Sheets.Reading.{readTable}
+use Rattle.rules.specs.Sheets.SheetRules.{TableRules, FullTable}
+use Rattle.rules.specs.Sheets.Sheets.{Table}
+use Rattle.rules.specs.Calls.Answers as answers
+use Rattle.rules.specs.Calls.BareCells.{bareCells}
 use Rattle.laws.specs.Calls.Answers.{not-refused}
 use Rattle.laws.specs.Calls.BareCells.{bare-within, bare-accepted, bare-inks, bare-kept}
 use Rattle.laws.specs.Lists.FirstPlaces.{any-place, at-first, before-first}
@@ -55,40 +55,31 @@ pub data Fullness (m : ℕ) (cells : List ℕ) : Type 0 where
 
 module _ (m : ℕ) (cells : List ℕ) where
   pub fullness : Fullness m cells
-  fullness = go (decLt (firstPlace (isOpen m) cells) (length cells))
-    where
-      go : Dec (firstPlace (isOpen m) cells < length cells) → Fullness m cells
-      go (yes h) =
-          lowest-open (firstPlace (isOpen m) cells) (full-27 m cells h) h (open-ink m _ (at-first (isOpen m) 0 cells h))
-          (λ p l. shut-ink m _ (before-first (isOpen m) 0 cells p l))
-      go (no h) = all-shut (full-on m cells (omega arith)) (λ k l. shut-ink m _ (before-first (isOpen m) 0 cells k (omega arith)))
+  fullness = elim (decLt (firstPlace (isOpen m) cells) (length cells)) [
+    | yes h ↦
+        lowest-open (firstPlace (isOpen m) cells) (full-27 m cells h) h (open-ink m _ (at-first (isOpen m) 0 cells h))
+        (λ p l. shut-ink m _ (before-first (isOpen m) 0 cells p l))
+    | no h ↦ all-shut (full-on m cells (omega arith)) (λ k l. shut-ink m _ (before-first (isOpen m) 0 cells k (omega arith)))
+  ]
 
   -- if cells are full, none is open
   pub none-open : full m cells ≡ accepted tt → (k : ℕ) → k < length cells → getD cells k 0 ≡ m → ⊥
-  none-open e = go fullness
-    where
-      go : Fullness m cells → (k : ℕ) → k < length cells → getD cells k 0 ≡ m → ⊥
-      go (all-shut _ none) = none
-      go (lowest-open k back _ _ _) = absurd (not-refused tt 27 k (sym e ∙ back))
+  none-open e =
+      elim fullness [ all-shut _ none ↦ none | lowest-open k back _ _ _ ↦ absurd (not-refused tt 27 k (sym e ∙ back)) ]
 
   -- .. and conversely
   pub open-none : ((k : ℕ) → k < length cells → getD cells k 0 ≡ m → ⊥) → full m cells ≡ accepted tt
-  open-none none = go fullness
-    where
-      go : Fullness m cells → full m cells ≡ accepted tt
-      go (all-shut e _) = e
-      go (lowest-open k _ inside gap _) = absurd (none k inside gap)
+  open-none none = elim fullness [ all-shut e _ ↦ e | lowest-open k _ inside gap _ ↦ absurd (none k inside gap) ]
 
   -- a refusal is 27 at the lowest open cell
   pub some-open : (number place : ℕ) → full m cells ≡ refused number place
       → (number ≡ 27) × (place < length cells) × (getD cells place 0 ≡ m) × ((p : ℕ) → p < place → getD cells p 0 ≡ m → ⊥)
-  some-open number place e = go fullness
-    where
-      go : Fullness m cells → (number ≡ 27) × (place < length cells) × (getD cells place 0 ≡ m) × ((p : ℕ) → p < place → getD cells p 0 ≡ m → ⊥)
-      go (all-shut on _) = absurd (not-refused tt number place (sym on ∙ e))
-      go (lowest-open k back inside gap before) =
-          let same : k ≡ place = cc in
-          (cc, rw same at inside, rw same at gap, rw same at before)
+  some-open number place e = elim fullness [
+    | all-shut on _ ↦ absurd (not-refused tt number place (sym on ∙ e))
+    | lowest-open k back inside gap before ↦
+        let same : k ≡ place = cc in
+        (cc, rw same at inside, rw same at gap, rw same at before)
+  ]
 
 -- ---- a table
 
@@ -179,11 +170,10 @@ module _ (s : List ℕ) where
 
   -- accepted exactly if the sheet is read and its table is full
   pub read-accepted : (t : Table) → readFull s ≡ accepted t → (readTable s ≡ accepted t) × (fullTable t ≡ accepted tt)
-  read-accepted t e = go full-read
-    where
-      go : FullRead s → (readTable s ≡ accepted t) × (fullTable t ≡ accepted tt)
-      go (turned-back number place _ back) = absurd (not-refused t number place (sym e ∙ back))
-      go (left-open _ _ k _ back) = absurd (not-refused t 27 k (sym e ∙ back))
-      go (whole u read on same) =
-          let is : u ≡ t = cc in
-          (rw is at read, rw is at on)
+  read-accepted t e = elim full-read [
+    | turned-back number place _ back ↦ absurd (not-refused t number place (sym e ∙ back))
+    | left-open _ _ k _ back ↦ absurd (not-refused t 27 k (sym e ∙ back))
+    | whole u read on same ↦
+        let is : u ≡ t = cc in
+        (rw is at read, rw is at on)
+  ]

@@ -1,14 +1,14 @@
 -- The results of settling and making, one law for each outcome, whatever net is made of a table.
 -- Assumes nothing.
-use Rattle.laws.specs.Prelude.{ℕ, _<_, _≤_, _^_, _≡_, _∙_, sym, List, lt-of-not-le, decLe, length, eq-eqb, ne-eqb, lt-ltb, le-ltb}
-use Rattle.rules.specs.Sheets.Sheets.{Net, Table}
-use Rattle.rules.specs.Sheets.Printed.{printedNet}
-use Rattle.rules.specs.Groups.Groups.{wholeGroup}
-use Rattle.rules.specs.Groups.Marks.{markIn, marksOf, marksLength, storedMarks, noTreePlace}
+use Rattle.laws.specs.Prelude.{ℕ, _<_, _≤_, _^_, _≡_, _∙_, sym, List, lt-of-not-le, decLe, length, eq-eqb, ne-eqb, lt-ltb, le-ltb, by-cases}
 use Rattle.rules.specs.Calls.Answers.{accepted, refused, inkIn, written}
-use Rattle.rules.specs.Sheets.Reading.{readNet, tableOfNet}
 use Rattle.rules.specs.Calls.OpenCells.{readFull}
 use Rattle.rules.specs.Calls.Settling.{Made, settledNet, writtenSheet, afterMarks, roomFor, inRoom, madeInto, settleCall, makeCall}
+use Rattle.rules.specs.Groups.Groups.{wholeGroup}
+use Rattle.rules.specs.Groups.Marks.{markIn, marksOf, marksLength, storedMarks, noTreePlace}
+use Rattle.rules.specs.Sheets.Printed.{printedNet}
+use Rattle.rules.specs.Sheets.Reading.{readNet, tableOfNet}
+use Rattle.rules.specs.Sheets.Sheets.{Net, Table}
 use Rattle.laws.specs.Calls.Answers.{not-refused}
 
 -- the marks of a table
@@ -38,13 +38,11 @@ module _ (t : Table) (cells marks : List ℕ) where
   -- if there is room, both buffers are long enough
   pub room-fits : roomFor t cells marks ≡ accepted tt → (t .header .levels ^ t .header .inputs ≤ length cells)
       × (marksLength (t .header .inputs) ≤ length marks)
-  room-fits e = go (decLe (t .header .levels ^ t .header .inputs) (length cells)) (decLe (marksLength (t .header .inputs)) (length marks))
-    where
-      go : Dec (t .header .levels ^ t .header .inputs ≤ length cells) → Dec (marksLength (t .header .inputs) ≤ length marks)
-          → (t .header .levels ^ t .header .inputs ≤ length cells) × (marksLength (t .header .inputs) ≤ length marks)
-      go (yes h) (yes k) = (h, k)
-      go (yes h) (no k) = absurd (not-refused tt 14 _ (sym e ∙ room-14 h (lt-of-not-le k)))
-      go (no h) _ = absurd (not-refused tt 13 _ (sym e ∙ room-13 (lt-of-not-le h)))
+  room-fits e = by-cases (decLe (t .header .levels ^ t .header .inputs) (length cells))
+      (λ h. by-cases (decLe (marksLength (t .header .inputs)) (length marks))
+      (λ k. (h, k))
+      (λ k. absurd (not-refused tt 14 _ (sym e ∙ room-14 h (lt-of-not-le k)))))
+      (λ h. absurd (not-refused tt 13 _ (sym e ∙ room-13 (lt-of-not-le h))))
 
 -- a call that first asks for this room, whatever follows
 module _ (t : Table) (cells marks output : List ℕ) (rest : Made) where

@@ -1,12 +1,12 @@
 -- The results of the two calls that write a shallow net, one law for each outcome; with the count of layers and without it.
 -- Assumes nothing.
 use Rattle.laws.specs.Prelude.{ℕ, _≡_, refl, List}
-use Rattle.rules.specs.Sheets.Sheets.{Net, Table}
 use Rattle.rules.specs.Calls.Answers.{Answer, accepted, refused, onward}
-use Rattle.rules.specs.Sheets.Reading.{readNet, tableOfNet}
 use Rattle.rules.specs.Calls.OpenCells.{readFull}
 use Rattle.rules.specs.Calls.Settling.{Made, madeInto}
 use Rattle.rules.specs.Calls.ShallowSettling.{Layered, LayeredMade, layered, withLayers, layeredInto, settleShallowCall, makeShallowCall, shallowNet}
+use Rattle.rules.specs.Sheets.Reading.{readNet, tableOfNet}
+use Rattle.rules.specs.Sheets.Sheets.{Net, Table}
 
 -- an answer without its count of layers
 unfoldable pub plainAnswer : Answer Layered → Answer ℕ

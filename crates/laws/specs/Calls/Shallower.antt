@@ -1,10 +1,10 @@
 -- The shallower of two sheets, one law for each outcome.
 -- Assumes nothing.
 use Rattle.laws.specs.Prelude.{ℕ, _<_, _≤_, _≡_, refl, List, lt-ltb, le-ltb}
-use Rattle.rules.specs.Sheets.Sheets.{Net}
 use Rattle.rules.specs.Calls.Answers.{accepted, onward, refused}
-use Rattle.rules.specs.Sheets.Reading.{readNet}
 use Rattle.rules.specs.Calls.ShallowSettling.{netLayers}
+use Rattle.rules.specs.Sheets.Reading.{readNet}
+use Rattle.rules.specs.Sheets.Sheets.{Net}
 use Rattle.rules.specs.Calls.Shallower.{firstSheet, secondSheet, noSheet, layersIn, whichBy}
 
 -- ---- one sheet

@@ -1,10 +1,10 @@
 -- The result of table writing, one law for each outcome.
 -- Assumes nothing.
 use Rattle.laws.specs.Prelude.{ℕ, _<_, _≤_, _≡_, List, length, lt-ltb, le-ltb}
-use Rattle.rules.specs.Sheets.Sheets.{Net}
-use Rattle.rules.specs.Sheets.Printed.{printedTable}
 use Rattle.rules.specs.Calls.Answers.{accepted, refused, written}
+use Rattle.rules.specs.Sheets.Printed.{printedTable}
 use Rattle.rules.specs.Sheets.Reading.{readNet, tableOfNet}
+use Rattle.rules.specs.Sheets.Sheets.{Net}
 use Rattle.rules.specs.Calls.TableWriting.{writeTableCall}
 
 pub table-refused : (sheet output : List ℕ) (number place : ℕ) → readNet sheet ≡ refused number place

@@ -1,9 +1,9 @@
 -- The result of tidying, one law for each outcome.
 -- Assumes nothing.
 use Rattle.laws.specs.Prelude.{ℕ, _<_, _≤_, _^_, _≡_, List, length, lt-ltb, le-ltb}
-use Rattle.rules.specs.Sheets.Sheets.{Table}
-use Rattle.rules.specs.Sheets.Printed.{printedTable}
 use Rattle.rules.specs.Calls.Answers.{accepted, refused, written}
+use Rattle.rules.specs.Sheets.Printed.{printedTable}
+use Rattle.rules.specs.Sheets.Sheets.{Table}
 use Rattle.rules.specs.Sheets.LooseSheet.{LooseTable, readLoose, tableOfLoose}
 use Rattle.rules.specs.Calls.Tidying.{tidiedSheet, tidiedInto, tidyCall}
 

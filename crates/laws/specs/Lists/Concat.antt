@@ -1,11 +1,10 @@
 -- Laws of `concatMap` and `map`.
 -- Assumes nothing.
-use Rattle.laws.specs.Prelude.{ℕ, _<_, _+_, suc, _*_, zero, _≡_, _∙_, sym, ap, refl, _⊎_, inl, inr, List, [], _∷_, _++_, map, List·Memᴰ, append-assoc}
+use Rattle.laws.specs.Prelude.{ℕ, _<_, _+_, suc, _*_, zero, _≡_, _∙_, sym, ap, refl, inl, inr, List, [], _∷_, _++_, map, List·Memᴰ, append-assoc}
 use Rattle.laws.specs.Prelude.{List·Memᴰ·head, List·Memᴰ·not-nil, List·Memᴰ·tail, List·Memᴰ·append-cases, Memᴰ·append-right, Memᴰ·append-left, zero-add}
 use Rattle.laws.specs.Prelude.{zero-mul, suc-mul, add-comm, arith, length, getD, length-append, List·getD-append, getD-append-add}
-use Rattle.rules.specs.Lists.{concatMap}
+use Rattle.rules.specs.Lists.{concatMap, concatMap}
 pub use mathlib.Core.List.{map-append}
-use Rattle.rules.specs.Lists.{concatMap}
 
 pub concat-append : {A B : Type 0} (f : A → List B) (xs ys : List A) → concatMap f (xs ++ ys) ≡ concatMap f xs ++ concatMap f ys
 unfolding concatMap
@@ -65,14 +64,13 @@ module _ {A B : Type 0} (f : A → List B) where
   pub concat-mem : {y : B} (xs : List A) → List·Memᴰ y (concatMap f xs) → (x : A) × List·Memᴰ x xs × List·Memᴰ y (f x)
   unfolding concatMap
   concat-mem [] h = absurd (List·Memᴰ·not-nil h)
-  concat-mem {y} (x ∷ xs) h = go (List·Memᴰ·append-cases (f x) h) (concat-mem xs)
+  concat-mem {y} (x ∷ xs) h = elim (List·Memᴰ·append-cases (f x) h) [
+    | inl i ↦ (x, List·Memᴰ·head refl, i)
+    | inr i ↦ let s = concat-mem xs i in (s .0, List·Memᴰ·tail (s .1), s .2)
+  ]
     where
       Source : List A → Type 0
       Source zs = (z : A) × List·Memᴰ z zs × List·Memᴰ y (f z)
-
-      go : List·Memᴰ y (f x) ⊎ List·Memᴰ y (concatMap f xs) → (List·Memᴰ y (concatMap f xs) → Source xs) → Source (x ∷ xs)
-      go (inl i) rest = (x, List·Memᴰ·head refl, i)
-      go (inr i) rest = let s = rest i in (s .0, List·Memᴰ·tail (s .1), s .2)
 
 pub concat-single : (f : ℕ → ℕ) (xs : List ℕ) → concatMap (λ x. f x ∷ []) xs ≡ map f xs
 unfolding concatMap

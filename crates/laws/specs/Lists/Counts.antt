@@ -1,7 +1,7 @@
 -- How many elements of a list pass a test, and how often a number occurs in a list.
 -- Assumes nothing.
-use Rattle.laws.specs.Prelude.{ℕ, _<_, _≤_, _+_, suc, zero, _≡_, refl, by-cases, true, false, Bool, List, [], _∷_, _++_, map, decLe, arith, eqb}
-use Rattle.laws.specs.Prelude.{length, ne-eqb}
+use Rattle.laws.specs.Prelude.{ℕ, _<_, _≤_, _+_, suc, zero, _≡_, refl, by-cases, true, false, Bool, List, [], _∷_, _++_, map, decLe, arith, eqb, length}
+use Rattle.laws.specs.Prelude.{ne-eqb}
 use Rattle.rules.specs.Lists.{range, any, those}
 use Rattle.laws.specs.Lists.Tests.{oneWhere, one-if-le, none-iff}
 

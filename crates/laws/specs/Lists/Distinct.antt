@@ -1,7 +1,7 @@
 -- Lists in which no element occurs twice.
 -- Assumes nothing.
-use Rattle.laws.specs.Prelude.{ℕ, _<_, _≤_, suc, zero, _≡_, _∙_, sym, ap, refl, subst⁻¹, _↔_, by-cases, true, false, Bool, true≢false, _||_, List}
-use Rattle.laws.specs.Prelude.{[], _∷_, _++_, decLt, arith, eqb, length, getD, eq-eqb, eqb-true, ne-eqb, eqb-false}
+use Rattle.laws.specs.Prelude.{ℕ, _<_, _≤_, suc, zero, _≡_, _∙_, sym, ap, refl, subst⁻¹, _↔_, by-cases, true, false, Bool, true≢false, List, [], _∷_}
+use Rattle.laws.specs.Prelude.{_++_, decLt, arith, eqb, length, getD, eq-eqb, eqb-true, ne-eqb, eqb-false, test-cases}
 use Rattle.rules.specs.Lists.{any, all}
 use Rattle.rules.specs.Sheets.SheetRules.{Distinct}
 use Rattle.laws.specs.Lists.Tests.{not-false-true, none-iff, none-append, none-mem, all-iff, any-cons}
@@ -99,8 +99,6 @@ unfolding any
 wider [] more h number i = absurd (true≢false (sym i))
 wider (k ∷ fewer) more h number i =
     let (first, others) = all-iff (λ j. any (eqb j) more) k fewer .0 h in
-    go (eqb number k) refl (sym (any-cons (eqb number) k fewer) ∙ i) first (wider fewer more others number)
-  where
-    go : (t : Bool) → eqb number k ≡ t → (t || any (eqb number) fewer) ≡ true → In k more → (In number fewer → In number more) → In number more
-    go true e i first later = subst⁻¹ (λ (k : ℕ). In k more) (eqb-true number k e) first
-    go false e i first later = later i
+    test-cases (eqb number k)
+    (λ e. subst⁻¹ (λ (k : ℕ). In k more) (eqb-true number k e) first)
+    (λ e. wider fewer more others number (rw e at (sym (any-cons (eqb number) k fewer) ∙ i)))

@@ -2,8 +2,8 @@
 -- Assumes nothing.
 use Rattle.laws.specs.Prelude.{ℕ, _<_, _≤_, _+_, suc, zero, _≡_, _∙_, sym, ap, refl, subst, _↔_, _≢_, ⊎-elim, _⊎_, inl, inr, true, false, Bool, _&&_}
 use Rattle.laws.specs.Prelude.{true≢false, List, [], _∷_, _++_, List·Memᴰ, List·Memᴰ·head, List·Memᴰ·tail, List·Memᴰ·cases-cons, arith}
-use mathlib.Core.Option.{Option, none, some, Option·some-injective, Option·none-ne-some}
 use Rattle.rules.specs.Lists.{range, those, find}
+use mathlib.Core.Option.{Option, none, some, Option·some-injective, Option·none-ne-some}
 
 -- The number that a search found is P, and first by R among all that are P; if it found nothing, no number is P.
 pub data First (P : ℕ → Type 0) (R : ℕ → ℕ → Type 0) : Option ℕ → Type 0 where
@@ -89,8 +89,7 @@ first-in-range t from (suc count) = go (t from) refl (first-in-range t (suc from
     go : (b : Bool) → t from ≡ b → First (InRange t (suc from) count) _≤_ (find t (range (suc from) count))
         → First (InRange t from (suc count)) _≤_ (elim b [ true ↦ some from | false ↦ find t (range (suc from) count) ])
     go true here later = found from (omega arith, omega arith, here) (λ h p. p .0)
-    go false here later =
-        first-same later (λ h. (λ p. (omega arith, omega arith, p .2), next here h)) (λ g h p q r. r)
+    go false here later = first-same later (λ h. (λ p. (omega arith, omega arith, p .2), next here h)) (λ g h p q r. r)
 
 pub find-same : (t u : ℕ → Bool) (xs : List ℕ) → ((x : ℕ) → List·Memᴰ x xs → t x ≡ u x) → find t xs ≡ find u xs
 unfolding find

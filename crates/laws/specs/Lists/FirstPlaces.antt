@@ -1,7 +1,7 @@
 -- The place of the first element that passes a test.
 -- Assumes nothing.
-use Rattle.laws.specs.Prelude.{ℕ, _<_, _≤_, _+_, _-_, suc, zero, _≡_, _∙_, sym, ap, refl, true, false, Bool, not, cond, _||_, false≢true, List, []}
-use Rattle.laws.specs.Prelude.{_∷_, map, zero-add, add-zero, suc-add, arith, ltb, leb·suc-suc, length, getD, lt-ltb}
+use Rattle.laws.specs.Prelude.{ℕ, _<_, _≤_, _+_, _-_, suc, zero, _≡_, _∙_, sym, ap, refl, true, false, Bool, not, cond, _||_, false≢true, List, [], _∷_}
+use Rattle.laws.specs.Prelude.{map, zero-add, add-zero, suc-add, arith, ltb, leb·suc-suc, length, getD, lt-ltb}
 use Rattle.rules.specs.Lists.{range, any, firstPlace, all}
 use Rattle.laws.specs.Lists.Tests.{any-cons}
 use Rattle.laws.specs.Lists.Ranges.{range-length, range-at}
@@ -130,8 +130,7 @@ stop-at test b c h e =
 pub place-at-most : (test : ℕ → Bool) (xs : List ℕ) → firstPlace test xs ≤ length xs
 unfolding firstPlace
 place-at-most test [] = omega arith
-place-at-most test (x ∷ xs) = go (test x) (place-at-most test xs)
-  where
-    go : (b : Bool) → firstPlace test xs ≤ length xs → elim b as (λ _. ℕ) [ true ↦ zero | false ↦ suc (firstPlace test xs) ] ≤ suc (length xs)
-    go true later = omega arith
-    go false later = omega arith
+place-at-most test (x ∷ xs) = elim (test x) as (λ b. elim b as (λ _. ℕ) [ true ↦ zero | false ↦ suc (firstPlace test xs) ] ≤ suc (length xs)) [
+  | true ↦ omega (arith, place-at-most test xs)
+  | false ↦ omega (arith, place-at-most test xs)
+]

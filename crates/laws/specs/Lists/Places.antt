@@ -1,6 +1,6 @@
 -- Lists read by place.
 -- Assumes nothing.
-use Rattle.laws.specs.Prelude.{ℕ, _<_, suc, zero, _≡_, sym, refl, _⊎_, inl, inr, List, [], _∷_, _++_, map, List·Memᴰ, List·Memᴰ·head, List·Memᴰ·not-nil}
+use Rattle.laws.specs.Prelude.{ℕ, _<_, suc, zero, _≡_, sym, refl, inl, inr, List, [], _∷_, _++_, map, List·Memᴰ, List·Memᴰ·head, List·Memᴰ·not-nil}
 use Rattle.laws.specs.Prelude.{List·Memᴰ·tail, List·Memᴰ·cases-cons, le-of-suc-le-suc, not-suc-le-zero, arith, length, getD, length-append}
 
 -- the element at a place is listed
@@ -38,9 +38,7 @@ one-byte (b ∷ d ∷ w) e = absurd (omega arith)
 -- an element that is listed has a place
 pub mem-place : (x : ℕ) (xs : List ℕ) → List·Memᴰ x xs → (k : ℕ) × (k < length xs) × (getD xs k 0 ≡ x)
 mem-place x [] is = absurd (List·Memᴰ·not-nil is)
-mem-place x (y ∷ xs) is = go (List·Memᴰ·cases-cons is) (mem-place x xs)
-  where
-    go : (x ≡ y) ⊎ List·Memᴰ x xs → (List·Memᴰ x xs → (k : ℕ) × (k < length xs) × (getD xs k 0 ≡ x))
-        → (k : ℕ) × (k < suc (length xs)) × (getD (y ∷ xs) k 0 ≡ x)
-    go (inl e) later = (zero, omega arith, sym e)
-    go (inr is) later = let at = later is in (suc (at .0), omega (arith, at .1), at .2)
+mem-place x (y ∷ xs) is = elim (List·Memᴰ·cases-cons is) [
+  | inl e ↦ (zero, omega arith, sym e)
+  | inr is ↦ let at = mem-place x xs is in (suc (at .0), omega (arith, at .1), at .2)
+]

@@ -1,8 +1,8 @@
 -- Laws of `range`.
 -- Assumes nothing.
-use Rattle.laws.specs.Prelude.{ℕ, _<_, _≤_, _+_, _-_, suc, zero, _≡_, _∙_, sym, ap, refl, _⊎_, inl, inr, List, [], _∷_, _++_, map, List·Memᴰ}
-use Rattle.laws.specs.Prelude.{List·Memᴰ·head, List·Memᴰ·not-nil, List·Memᴰ·tail, List·Memᴰ·cases-cons, map-append, zero-add, add-zero, suc-add}
-use Rattle.laws.specs.Prelude.{add-suc, eq-or-lt-of-le, add-one, arith, length, getD, length-map, replicate, ext-getD}
+use Rattle.laws.specs.Prelude.{ℕ, _<_, _≤_, _+_, _-_, suc, zero, _≡_, _∙_, sym, ap, refl, inl, inr, List, [], _∷_, _++_, map, List·Memᴰ, List·Memᴰ·head}
+use Rattle.laws.specs.Prelude.{List·Memᴰ·not-nil, List·Memᴰ·tail, List·Memᴰ·cases-cons, map-append, zero-add, add-zero, suc-add, add-suc}
+use Rattle.laws.specs.Prelude.{eq-or-lt-of-le, add-one, arith, length, getD, length-map, replicate, ext-getD}
 use Rattle.rules.specs.Lists.{range}
 use Rattle.laws.specs.Lists.Places.{map-at}
 
@@ -85,19 +85,16 @@ by-places d xs =
 pub mem-range : (from count x : ℕ) → from ≤ x → x < from + count → List·Memᴰ x (range from count)
 unfolding range
 mem-range from zero x l h = absurd (omega arith)
-mem-range from (suc count) x l h = go (eq-or-lt-of-le l) (λ l′. mem-range (suc from) count x l′ (omega arith))
-  where
-    go : (from ≡ x) ⊎ (from < x) → (from < x → List·Memᴰ x (range (suc from) count)) → List·Memᴰ x (range from (suc count))
-    go (inl e) rest = List·Memᴰ·head (sym e)
-    go (inr l′) rest = List·Memᴰ·tail (rest l′)
+mem-range from (suc count) x l h = elim (eq-or-lt-of-le l) [
+  | inl e ↦ List·Memᴰ·head (sym e)
+  | inr l′ ↦ List·Memᴰ·tail (mem-range (suc from) count x l′ (omega arith))
+]
 
 -- .. and no other
 pub range-mem : (from count x : ℕ) → List·Memᴰ x (range from count) → (from ≤ x) × (x < from + count)
 unfolding range
 range-mem from zero x h = absurd (List·Memᴰ·not-nil h)
-range-mem from (suc count) x h = go (List·Memᴰ·cases-cons h) (range-mem (suc from) count x)
-  where
-    go : (x ≡ from) ⊎ List·Memᴰ x (range (suc from) count) → (List·Memᴰ x (range (suc from) count) → (suc from ≤ x) × (x < suc from + count))
-        → (from ≤ x) × (x < from + suc count)
-    go (inl e) rest = omega arith
-    go (inr i) rest = let r = rest i in omega arith
+range-mem from (suc count) x h = elim (List·Memᴰ·cases-cons h) [
+  | inl e ↦ omega arith
+  | inr i ↦ let r = range-mem (suc from) count x i in omega arith
+]

@@ -1,7 +1,7 @@
 -- A list of equally long rows, read by row and column.
 -- Assumes nothing.
-use Rattle.laws.specs.Prelude.{ℕ, _<_, _+_, suc, _*_, zero, _≡_, _∙_, ap, ap₂, List, [], _∷_, map, zero-add, zero-mul, suc-mul, le-of-suc-le-suc}
-use Rattle.laws.specs.Prelude.{arith, length, getD, List·getD-append, getD-append-add}
+use Rattle.laws.specs.Prelude.{ℕ, _<_, _+_, suc, _*_, zero, _≡_, _∙_, ap, ap₂, List, [], _∷_, map, zero-add, zero-mul, suc-mul, le-of-suc-le-suc, arith}
+use Rattle.laws.specs.Prelude.{length, getD, List·getD-append, getD-append-add}
 use Rattle.rules.specs.Lists.{range, concatMap}
 use Rattle.laws.specs.Lists.Concat.{concat-length}
 use Rattle.laws.specs.Lists.Ranges.{range-length, range-at, map-range-length, map-range-at}

@@ -1,9 +1,9 @@
 -- Laws of `run` and `past`, and of the spaces at the front.
 -- Assumes nothing.
-use Rattle.laws.specs.Prelude.{ℕ, _≤_, _+_, suc, _≡_, _∙_, sym, ap, refl, true, false, Bool, List, [], _∷_, _++_, arith, eqb, length, take, drop}
-use Rattle.laws.specs.Prelude.{length-append, drop-append-seam, take-append-seam}
-use Rattle.rules.specs.Text.{space}
+use Rattle.laws.specs.Prelude.{ℕ, _≤_, _+_, suc, _≡_, _∙_, sym, ap, refl, true, false, List, [], _∷_, _++_, arith, eqb, length, take, drop}
+use Rattle.laws.specs.Prelude.{length-append, drop-append-seam, take-append-seam, test-cases}
 use Rattle.rules.specs.Sheets.Fields.{isSeparator, run, past, pastSpaces, spacesIn}
+use Rattle.rules.specs.Text.{space}
 
 -- the end of the field at a place: the place of the byte after it
 unfoldable pub fieldEnd : List ℕ → ℕ → ℕ
@@ -23,11 +23,8 @@ at-plain b s e = rw (e, run, past) (refl, refl)
 pub run-past : (s : List ℕ) → s ≡ run s ++ past s
 unfolding run past
 run-past [] = refl
-run-past (b ∷ s) = go (isSeparator b) refl (run-past s)
-  where
-    go : (t : Bool) → isSeparator b ≡ t → s ≡ run s ++ past s → b ∷ s ≡ run (b ∷ s) ++ past (b ∷ s)
-    go true e r = rw (e, run, past) refl
-    go false e r = rw (e, run, past) (ap (λ u. b ∷ u) r)
+run-past (b ∷ s) =
+    test-cases (isSeparator b) (λ e. rw (e, run, past) refl) (λ e. rw (e, run, past) (ap (λ u. b ∷ u) (run-past s)))
 
 -- the same by place
 module _ (s : List ℕ) where
@@ -44,30 +41,25 @@ module _ (s : List ℕ) where
 pub run-more : (s t : List ℕ) (b : ℕ) (rest : List ℕ) → past s ≡ b ∷ rest → (run (s ++ t) ≡ run s) × (past (s ++ t) ≡ b ∷ (rest ++ t))
 unfolding run past
 run-more [] t b rest e = absurd (let z : _≡_ {A = ℕ} 0 1 = cc in omega arith)
-run-more (c ∷ s) t b rest e = go (isSeparator c) refl e (run-more s t b rest)
-  where
-    go : (u : Bool) → isSeparator c ≡ u → past (c ∷ s) ≡ b ∷ rest → (past s ≡ b ∷ rest → (run (s ++ t) ≡ run s) × (past (s ++ t) ≡ b ∷ (rest ++ t)))
-        → (run (c ∷ (s ++ t)) ≡ run (c ∷ s)) × (past (c ∷ (s ++ t)) ≡ b ∷ (rest ++ t))
-    go true d e r =
-        let (i, j) = at-separator c (s ++ t) d in
-        let (k, l) = at-separator c s d in
-        let whole : c ∷ s ≡ b ∷ rest = sym l ∙ e in
-        (i ∙ sym k, j ∙ ap (λ u. u ++ t) whole)
-    go false d e r =
-        let (i, j) = at-plain c (s ++ t) d in
-        let (k, l) = at-plain c s d in
-        let (x, y) = r (sym l ∙ e) in
-        (i ∙ ap (λ w. c ∷ w) x ∙ sym k, j ∙ y)
+run-more (c ∷ s) t b rest e = test-cases (isSeparator c)
+    (λ d.
+    let (i, j) = at-separator c (s ++ t) d in
+    let (k, l) = at-separator c s d in
+    let whole : c ∷ s ≡ b ∷ rest = sym l ∙ e in
+    (i ∙ sym k, j ∙ ap (λ u. u ++ t) whole))
+    (λ d.
+    let (i, j) = at-plain c (s ++ t) d in
+    let (k, l) = at-plain c s d in
+    let (x, y) = run-more s t b rest (sym l ∙ e) in
+    (i ∙ ap (λ w. c ∷ w) x ∙ sym k, j ∙ y))
 
 -- .. and if no separator follows, the run continues into them
 pub run-through : (s t : List ℕ) → past s ≡ [] → run (s ++ t) ≡ s ++ run t
 unfolding run past
 run-through [] t e = refl
-run-through (c ∷ s) t e = go (isSeparator c) refl e (run-through s t)
-  where
-    go : (u : Bool) → isSeparator c ≡ u → past (c ∷ s) ≡ [] → (past s ≡ [] → run (s ++ t) ≡ s ++ run t) → run (c ∷ (s ++ t)) ≡ c ∷ (s ++ run t)
-    go true d e r = absurd (let whole : c ∷ s ≡ [] = sym (at-separator c s d .1) ∙ e in let z : _≡_ {A = ℕ} 0 1 = cc in omega arith)
-    go false d e r = at-plain c (s ++ t) d .0 ∙ ap (λ w. c ∷ w) (r (sym (at-plain c s d .1) ∙ e))
+run-through (c ∷ s) t e = test-cases (isSeparator c)
+    (λ d. absurd (let whole : c ∷ s ≡ [] = sym (at-separator c s d .1) ∙ e in let z : _≡_ {A = ℕ} 0 1 = cc in omega arith))
+    (λ d. at-plain c (s ++ t) d .0 ∙ ap (λ w. c ∷ w) (run-through s t (sym (at-plain c s d .1) ∙ e)))
 
 -- ---- spaces at the front
 
@@ -85,17 +77,13 @@ at-other b s e = rw (e, spacesIn, pastSpaces) (refl, refl)
 pub spaces-rest : (s : List ℕ) → drop (spacesIn s) s ≡ pastSpaces s
 unfolding spacesIn pastSpaces
 spaces-rest [] = refl
-spaces-rest (b ∷ s) = go (eqb b space) refl (spaces-rest s)
-  where
-    go : (t : Bool) → eqb b space ≡ t → drop (spacesIn s) s ≡ pastSpaces s → drop (spacesIn (b ∷ s)) (b ∷ s) ≡ pastSpaces (b ∷ s)
-    go true e r = rw (at-space b s e .0, at-space b s e .1) r
-    go false e r = rw (at-other b s e .0, at-other b s e .1) refl
+spaces-rest (b ∷ s) = test-cases (eqb b space)
+    (λ e. rw (at-space b s e .0, at-space b s e .1) (spaces-rest s))
+    (λ e. rw (at-other b s e .0, at-other b s e .1) refl)
 
 pub spaces-most : (s : List ℕ) → spacesIn s ≤ length s
 unfolding spacesIn
 spaces-most [] = omega arith
-spaces-most (b ∷ s) = go (eqb b space) refl (spaces-most s)
-  where
-    go : (t : Bool) → eqb b space ≡ t → spacesIn s ≤ length s → spacesIn (b ∷ s) ≤ length (b ∷ s)
-    go true e r = rw (at-space b s e .0) (omega arith)
-    go false e r = rw (at-other b s e .0) (omega arith)
+spaces-most (b ∷ s) = test-cases (eqb b space)
+    (λ e. rw (at-space b s e .0) (omega (arith, spaces-most s)))
+    (λ e. rw (at-other b s e .0) (omega (arith, spaces-most s)))

@@ -1,7 +1,7 @@
 -- Laws of `same`: the same numbers in the same order.
 -- Assumes nothing.
-use Rattle.laws.specs.Prelude.{ℕ, _<_, _≤_, _+_, suc, _≡_, _∙_, sym, ap, refl, ap₂, true, false, Bool, _&&_, and-eq-true-iff, false≢true, List, []}
-use Rattle.laws.specs.Prelude.{_∷_, add-one, eqb, length, getD, drop, drop-of-length-le, drop-cons, eq-eqb, eqb-true, ne-eqb}
+use Rattle.laws.specs.Prelude.{ℕ, _<_, _≤_, _+_, suc, _≡_, _∙_, sym, ap, refl, ap₂, true, false, Bool, _&&_, and-eq-true-iff, false≢true, List, [], _∷_}
+use Rattle.laws.specs.Prelude.{add-one, eqb, length, getD, drop, drop-of-length-le, drop-cons, eq-eqb, eqb-true, ne-eqb}
 use Rattle.rules.specs.Lists.{same}
 use Rattle.laws.specs.Lists.Tests.{two-ways}
 

@@ -1,7 +1,7 @@
 -- Sums over the numbers below a bound.
 -- Assumes nothing.
-use Rattle.laws.specs.Prelude.{ℕ, _<_, _≤_, _+_, suc, zero, _≡_, _∙_, ap, refl, subst⁻¹, true, false, Bool, cond, List, [], _∷_, _++_, map}
-use Rattle.laws.specs.Prelude.{List·Memᴰ, List·Memᴰ·head, Memᴰ·append-right, Memᴰ·append-left, ℕ-discrete, arith}
+use Rattle.laws.specs.Prelude.{ℕ, _<_, _≤_, _+_, suc, zero, _≡_, _∙_, ap, refl, subst⁻¹, true, false, Bool, cond, List, [], _∷_, _++_, map, List·Memᴰ}
+use Rattle.laws.specs.Prelude.{List·Memᴰ·head, Memᴰ·append-right, Memᴰ·append-left, ℕ-discrete, arith, by-cases}
 use Rattle.rules.specs.Lists.{range, those, total}
 use Rattle.laws.specs.Lists.Ranges.{range-suc}
 use Rattle.laws.specs.Lists.Totals.{total-parts, those-cons, those-append}
@@ -35,11 +35,8 @@ sum-pairs f (suc k) =
 pub sum-more : (f : ℕ → ℕ) (j k : ℕ) → j ≤ k → sumTo f j ≤ sumTo f k
 unfolding sumTo
 sum-more f j zero h = let none : j ≡ 0 = omega arith in rw none (omega arith)
-sum-more f j (suc k) h = go (ℕ-discrete j (suc k)) (sum-more f j k)
-  where
-    go : Dec (j ≡ suc k) → (j ≤ k → sumTo f j ≤ sumTo f k) → sumTo f j ≤ sumTo f k + f k
-    go (yes e) below = rw e (omega arith)
-    go (no other) below = omega (arith, below (omega arith))
+sum-more f j (suc k) h =
+    by-cases (ℕ-discrete j (suc k)) (λ e. rw e (omega arith)) (λ other. omega (arith, sum-more f j k (omega arith)))
 
 -- a sum over the numbers of a range that pass, if each is at most another function's value there
 pub total-sum : (f h : ℕ → ℕ) (test : ℕ → Bool) (k : ℕ) → ((a : ℕ) → List·Memᴰ a (those test (range 1 k)) → f a ≤ h a)

@@ -1,8 +1,8 @@
 -- Laws of tests: two tests together, and the tests of lists (`all`, `any`).
 -- Assumes nothing.
 use Rattle.laws.specs.Prelude.{ℕ, _<_, _≤_, _+_, suc, _≡_, _∙_, sym, ap, refl, ap₂, _↔_, true, false, Bool, _&&_, true≢false, and-eq-true-iff, cond}
-use Rattle.laws.specs.Prelude.{_||_, or-false, or-assoc, List, [], _∷_, _++_, map, List·Memᴰ, List·Memᴰ·head, List·Memᴰ·tail, arith, eqb, leb}
-use Rattle.laws.specs.Prelude.{length, getD, eq-eqb, eqb-true, ne-eqb, le-leb, leb-true}
+use Rattle.laws.specs.Prelude.{_||_, or-false, or-assoc, List, [], _∷_, _++_, map, List·Memᴰ, List·Memᴰ·head, List·Memᴰ·tail, arith, eqb, leb, length}
+use Rattle.laws.specs.Prelude.{getD, eq-eqb, eqb-true, ne-eqb, le-leb, leb-true, test-cases}
 use Rattle.rules.specs.Lists.{all, any}
 
 -- ---- Booleans
@@ -48,11 +48,8 @@ both-eqb a b c d = (
 
 -- a number is not equal to both of two that differ
 pub not-both : (c a b : ℕ) → (a ≡ b → ⊥) → (eqb c a && eqb c b) ≡ false
-not-both c a b differ = go (eqb c a) refl
-  where
-    go : (t : Bool) → eqb c a ≡ t → (t && eqb c b) ≡ false
-    go true e = ne-eqb c b (λ q. differ (sym (eqb-true c a e) ∙ q))
-    go false e = refl
+not-both c a b differ =
+    test-cases (eqb c a) (λ e. rw e (ne-eqb c b (λ q. differ (sym (eqb-true c a e) ∙ q)))) (λ e. rw e)
 
 -- a test as a count
 abbrev pub oneWhere : Bool → ℕ

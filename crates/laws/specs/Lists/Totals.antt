@@ -3,10 +3,10 @@
 -- Assumes nothing.
 use Rattle.laws.specs.Prelude.{ℕ, _<_, _≤_, _+_, _-_, suc, zero, _≡_, _∙_, sym, ap, refl, ap₂, _⊎_, inl, inr, true, false, Bool, cond, _||_, false≢true}
 use Rattle.laws.specs.Prelude.{List, [], _∷_, _++_, map, List·Memᴰ, List·Memᴰ·head, List·Memᴰ·not-nil, List·Memᴰ·tail, List·Memᴰ·cases-cons, zero-add}
-use Rattle.laws.specs.Prelude.{add-zero, suc-add, arith, eqb, ltb, eq-eqb, eqb-true, ne-eqb, lt-ltb, eqb-false, ltb-true, ltb-false}
+use Rattle.laws.specs.Prelude.{add-zero, suc-add, arith, eqb, ltb, eq-eqb, eqb-true, ne-eqb, lt-ltb, eqb-false, ltb-true, ltb-false, test-cases}
 use Rattle.rules.specs.Lists.{range, any, those, firstPlace, total}
-use Rattle.rules.specs.Sheets.SheetRules.{Distinct}
 use Rattle.rules.specs.Nets.Family.{Numbered, numberedAt}
+use Rattle.rules.specs.Sheets.SheetRules.{Distinct}
 use Rattle.laws.specs.Lists.Tests.{any-cons, none-mem}
 use Rattle.laws.specs.Lists.Ranges.{range-mem}
 use Rattle.laws.specs.Lists.Finds.{those-mem}
@@ -24,11 +24,8 @@ total-parts f (x ∷ xs) ys = omega (arith, total-parts f xs ys)
 pub total-most : (f : ℕ → ℕ) (xs : List ℕ) (x : ℕ) → List·Memᴰ x xs → f x ≤ total (map f xs)
 unfolding total
 total-most f [] x is = absurd (List·Memᴰ·not-nil is)
-total-most f (y ∷ xs) x is = go (List·Memᴰ·cases-cons is) (total-most f xs x)
-  where
-    go : (x ≡ y) ⊎ List·Memᴰ x xs → (List·Memᴰ x xs → f x ≤ total (map f xs)) → f x ≤ f y + total (map f xs)
-    go (inl e) later = rw e (omega arith)
-    go (inr is) later = omega (arith, later is)
+total-most f (y ∷ xs) x is =
+    elim (List·Memᴰ·cases-cons is) [ inl e ↦ rw e (omega arith) | inr is ↦ omega (arith, total-most f xs x is) ]
 
 -- functions that agree over the list
 pub total-same : (f h : ℕ → ℕ) (xs : List ℕ) → ((x : ℕ) → List·Memᴰ x xs → f x ≡ h x) → total (map f xs) ≡ total (map h xs)
@@ -97,13 +94,11 @@ those-range-distinct test from (suc count) =
     rw (those-cons test from (range (suc from) count)) (go (test from) (those-range-distinct test (suc from) count))
   where
     later : any (eqb from) (those test (range (suc from) count)) ≡ false
-    later = found (any (eqb from) (those test (range (suc from) count))) refl
-      where
-        found : (t : Bool) → any (eqb from) (those test (range (suc from) count)) ≡ t → any (eqb from) (those test (range (suc from) count)) ≡ false
-        found false e = e
-        found true e =
-            let between = range-mem (suc from) count from (those-mem test (range (suc from) count) from (any-mem from _ e)) in
-            absurd (omega arith)
+    later = test-cases (any (eqb from) (those test (range (suc from) count)))
+        (λ e.
+        let between = range-mem (suc from) count from (those-mem test (range (suc from) count) from (any-mem from _ e)) in
+        absurd (omega arith))
+        (λ e. e)
 
     go : (t : Bool) → Distinct (those test (range (suc from) count))
         → Distinct (cond t (from ∷ those test (range (suc from) count)) (those test (range (suc from) count)))
@@ -128,10 +123,7 @@ module _ (count : ℕ → ℕ) where
   unfolding numberedAt
   numbered-cons x xs r =
       elim (ltb r (count x)) as (λ t. elim t as (λ _. Numbered) [ true ↦ record { part = x; number = r } | false ↦ numberedAt count xs (r - count x) ]
-      ≡ cond t (record { part = x; number = r }) (numberedAt count xs (r - count x))) [
-        | true ↦ refl
-        | false ↦ refl
-      ]
+      ≡ cond t (record { part = x; number = r }) (numberedAt count xs (r - count x))) [ true ↦ refl | false ↦ refl ]
 
   -- the first part has the first numbers, ..
   pub numbered-here : (x : ℕ) (xs : List ℕ) (r : ℕ) → r < count x → numberedAt count (x ∷ xs) r ≡ record { part = x; number = r }
@@ -139,11 +131,9 @@ module _ (count : ℕ → ℕ) where
 
   -- .. and the others follow
   pub numbered-later : (x : ℕ) (xs : List ℕ) (r : ℕ) → count x ≤ r → numberedAt count (x ∷ xs) r ≡ numberedAt count xs (r - count x)
-  numbered-later x xs r h = numbered-cons x xs r ∙ go (ltb r (count x)) refl
-    where
-      go : (t : Bool) → ltb r (count x) ≡ t → cond t (record { part = x; number = r }) (numberedAt count xs (r - count x)) ≡ numberedAt count xs (r - count x)
-      go true e = absurd (omega (arith, ltb-true r (count x) e))
-      go false e = refl
+  numbered-later x xs r h = numbered-cons x xs r ∙ test-cases (ltb r (count x))
+      (λ e. absurd (omega (arith, ltb-true r (count x) e)))
+      (λ e. rw e)
 
   -- a number below a part's count gives a number below the sum of all counts, ..
   pub before-below : (xs : List ℕ) (a s : ℕ) → List·Memᴰ a xs → s < count a → before xs a + s < total (map count xs)
@@ -183,27 +173,25 @@ module _ (count : ℕ → ℕ) where
   pub numbered-placed : (xs : List ℕ) → Distinct xs → (r : ℕ) → r < total (map count xs) → Placed xs r
   unfolding total
   numbered-placed [] distinct r h = absurd (omega arith)
-  numbered-placed (x ∷ xs) distinct r h = go (ltb r (count x)) refl (numbered-placed xs (distinct .1) (r - count x))
-    where
-      go : (t : Bool) → ltb r (count x) ≡ t → (r - count x < total (map count xs) → Placed xs (r - count x)) → Placed (x ∷ xs) r
-      go true e later =
-          let here = numbered-here x xs r (ltb-true r (count x) e) in
-          record {
-            listed = rw here (List·Memᴰ·head refl);
-            below = rw here (ltb-true r (count x) e);
-            again = rw (here, before-cons, eq-eqb x x refl, zero-add);
-          }
-      go false e later =
-          let past : count x ≤ r = ltb-false r (count x) e in
-          let rest = later (omega arith) in
-          let there = numbered-later x xs r past in
-          let other : eqb x (numberedAt count xs (r - count x) .part) ≡ false =
-          ne-eqb _ _ (λ same. eqb-false x _ (none-mem (eqb x) (rest .listed) (distinct .0)) same) in
-          record {
-            listed = rw there (List·Memᴰ·tail (rest .listed));
-            below = rw there (rest .below);
-            again = rw (there, before-cons, other) (omega (arith, rest .again));
-          }
+  numbered-placed (x ∷ xs) distinct r h = test-cases (ltb r (count x))
+      (λ e.
+      let here = numbered-here x xs r (ltb-true r (count x) e) in
+      record {
+        listed = rw here (List·Memᴰ·head refl);
+        below = rw here (ltb-true r (count x) e);
+        again = rw (here, before-cons, eq-eqb x x refl, zero-add);
+      })
+      (λ e.
+      let past : count x ≤ r = ltb-false r (count x) e in
+      let rest = numbered-placed xs (distinct .1) (r - count x) (omega arith) in
+      let there = numbered-later x xs r past in
+      let other : eqb x (numberedAt count xs (r - count x) .part) ≡ false =
+      ne-eqb _ _ (λ same. eqb-false x _ (none-mem (eqb x) (rest .listed) (distinct .0)) same) in
+      record {
+        listed = rw there (List·Memᴰ·tail (rest .listed));
+        below = rw there (rest .below);
+        again = rw (there, before-cons, other) (omega (arith, rest .again));
+      })
 
   -- number 0 belongs to the first part, for the numbers in a range that pass a test
   pub numbered-first : (test : ℕ → Bool) (from k : ℕ) → any test (range from k) ≡ true → ((a : ℕ) → List·Memᴰ a (those test (range from k)) → 0 < count a)

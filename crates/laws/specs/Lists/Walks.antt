@@ -2,8 +2,8 @@
 -- Assumes nothing.
 use Rattle.laws.specs.Prelude.{ℕ, _<_, _≤_, _+_, _-_, _≡_, _∙_, sym, ap, true, false, Bool, List, _∷_, map, add-zero, add-one, arith, length, getD}
 use Rattle.laws.specs.Prelude.{drop, drop-of-length-le, drop-cons}
-use mathlib.Core.Option.{none, some}
 use Rattle.rules.specs.Lists.{range, all, any, find, firstPlace}
+use mathlib.Core.Option.{none, some}
 use Rattle.laws.specs.Lists.Ranges.{range-next, range-none}
 
 -- ---- a list

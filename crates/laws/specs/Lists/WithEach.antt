@@ -3,8 +3,8 @@
 -- Assumes nothing.
 use Rattle.laws.specs.Prelude.{ℕ, _<_, _+_, _≡_, _∙_, refl, List, [], _∷_, _++_, map, arith, length, getD, List·getD-append, getD-append-seam}
 use Rattle.rules.specs.Lists.{withEach}
-use Rattle.rules.specs.Sheets.Sheets.{Gate}
 use Rattle.rules.specs.Sheets.SheetRules.{RefersBack}
+use Rattle.rules.specs.Sheets.Sheets.{Gate}
 use Rattle.laws.specs.Lists.Concat.{map-append}
 use Rattle.laws.specs.Lists.Places.{length-snoc}
 

@@ -1,9 +1,9 @@
 -- An ink as a field of a row: a digit below m, or the sign of an open cell (document 02, K13).
 -- Assumes nothing.
 use Rattle.laws.specs.Prelude.{ℕ, _-_, _≡_, true, false, Bool, [], _∷_, eqb, eq-eqb, ne-eqb}
-use Rattle.rules.specs.Text.{digitByte, openByte, isDigit}
 use Rattle.rules.specs.Sheets.Fields.{Judged, good, bad, judged}
 use Rattle.rules.specs.Sheets.Sheets.{inkField, inkByte}
+use Rattle.rules.specs.Text.{digitByte, openByte, isDigit}
 
 -- ---- the byte that an ink is written as
 

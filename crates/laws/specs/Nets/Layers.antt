@@ -3,8 +3,8 @@
 use Rattle.laws.specs.Prelude.{ℕ, _<_, _+_, _-_, suc, zero, max, _≡_, _∙_, sym, ap, refl, ap₂, List, [], _∷_, _++_, map, arith, length, getD}
 use Rattle.laws.specs.Prelude.{length-append, length-map, replicate}
 use Rattle.rules.specs.Lists.{range, withEach}
-use Rattle.rules.specs.Sheets.Sheets.{Gate}
 use Rattle.rules.specs.Sheets.SheetRules.{RefersBack}
+use Rattle.rules.specs.Sheets.Sheets.{Gate}
 use Rattle.rules.specs.Nets.Layers.{gateWays, withWays, waysOf, most, layers}
 use Rattle.laws.specs.Lists.Concat.{map-append}
 use Rattle.laws.specs.Lists.Extremes.{most-append, most-suc}

@@ -2,10 +2,10 @@
 -- Assumes nothing.
 use Rattle.laws.specs.Prelude.{ℕ, _<_, _≤_, _+_, _^_, _*_, _≡_, _∙_, sym, ap, refl, true, false, Bool, _&&_, and-eq-true-iff, and-false, List, map}
 use Rattle.laws.specs.Prelude.{zero-add, mul-comm, ltb, length, getD, lt-ltb, le-ltb, ltb-true, digits-lt}
-use lib.IntN.{ℤ, pos, negsuc, _+ℤ_}
 use Rattle.rules.specs.Lists.{range}
-use Rattle.rules.specs.Sheets.Sheets.{Gate, Net, levelsAt}
 use Rattle.rules.specs.Nets.Value.{value, tableOf, valueWith}
+use Rattle.rules.specs.Sheets.Sheets.{Gate, Net, levelsAt}
+use lib.IntN.{ℤ, pos, negsuc, _+ℤ_}
 use Rattle.rules.specs.Calls.Glyphs.{levelAt, across, down, levelsRead, newCell, glyph}
 use Rattle.laws.specs.Lists.Ranges.{map-range-length, map-range-at, range-length, range-at}
 use Rattle.laws.specs.Lists.Concat.{concat-length, concat-at}

@@ -2,8 +2,8 @@
 -- time. "Arrival times count used inputs only." (document 02, K12)
 -- Assumes nothing.
 use Rattle.laws.specs.Prelude.{ℕ, _≤_, _+_, _*_, _≡_, _∙_, sym, ap, List, List·Memᴰ, add-mul, mul-right-comm, arith, getD}
-use Rattle.rules.specs.Sheets.Sheets.{Gate}
 use Rattle.rules.specs.Nets.Arrivals.{gatesOnWay, usedInputs, settlingTime}
+use Rattle.rules.specs.Sheets.Sheets.{Gate}
 use Rattle.laws.specs.Lists.Extremes.{most-more, most-same, most-times}
 
 module _ (n : ℕ) (gates : List Gate) where

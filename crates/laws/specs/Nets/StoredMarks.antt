@@ -2,8 +2,8 @@
 -- Assumes nothing.
 use Rattle.laws.specs.Prelude.{ℕ, _<_, _≤_, _+_, _^_, suc, _*_, zero, _%_, _/_, _≡_, _∙_, sym, ap, refl, ap₂, List, [], _∷_, _++_, pow-suc, zero-div}
 use Rattle.laws.specs.Prelude.{div-one, arith, length, getD, take, drop, set, List·getD-append, length-take-le, drop-cons, append-snoc, set-at}
-use Rattle.rules.specs.Groups.Marks.{markIn, marksLength, storedMarks, markStored, unpacked}
 use Rattle.rules.specs.Calls.Answers.{written}
+use Rattle.rules.specs.Groups.Marks.{markIn, marksLength, storedMarks, markStored, unpacked}
 
 -- the byte of the four marks from `at` on
 abbrev pub fourAt : List ℕ → ℕ → ℕ

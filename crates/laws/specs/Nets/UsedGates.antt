@@ -2,8 +2,8 @@
 -- Assumes nothing.
 use Rattle.laws.specs.Prelude.{ℕ, _-_, _≡_, true, List, arith, length}
 use Rattle.rules.specs.Lists.{range}
-use Rattle.rules.specs.Sheets.Sheets.{Gate, earlierUsed}
 use Rattle.rules.specs.Sheets.SheetRules.{EarlierUsed}
+use Rattle.rules.specs.Sheets.Sheets.{Gate, earlierUsed}
 use Rattle.laws.specs.Lists.Tests.{all-mem, mem-all}
 use Rattle.laws.specs.Lists.Ranges.{range-mem, mem-range}
 

@@ -1,7 +1,7 @@
 -- Decimal values digit by digit, and how long they are.
 -- Assumes nothing.
 use Rattle.laws.specs.Prelude.{ℕ, _<_, _≤_, _^_, suc, zero, _%_, _/_, _≡_, _∙_, sym, ap, List, [], _∷_, _++_, pow-suc, decLe, arith, length}
-use Rattle.laws.specs.Prelude.{length-append, lt-ltb, le-ltb}
+use Rattle.laws.specs.Prelude.{length-append, lt-ltb, le-ltb, by-cases}
 use Rattle.rules.specs.Text.{digitByte, decimalF, decimal}
 
 one-digit : (fuel k : ℕ) → k < 10 → decimalF fuel k ≡ digitByte k ∷ []
@@ -19,12 +19,9 @@ more-digits fuel k h = rw (le-ltb k 10 h, decimalF)
 enough : (f g k : ℕ) → k ≤ f → k ≤ g → decimalF f k ≡ decimalF g k
 enough zero g k hf hg = one-digit zero k (omega arith) ∙ sym (one-digit g k (omega arith))
 enough (suc f) zero k hf hg = one-digit (suc f) k (omega arith) ∙ sym (one-digit zero k (omega arith))
-enough (suc f) (suc g) k hf hg = go (decLe 10 k) (enough f g (k / 10))
-  where
-    go : Dec (10 ≤ k) → (k / 10 ≤ f → k / 10 ≤ g → decimalF f (k / 10) ≡ decimalF g (k / 10)) → decimalF (suc f) k ≡ decimalF (suc g) k
-    go (yes h) same =
-        more-digits f k h ∙ ap (λ (w : List ℕ). w ++ (digitByte (k % 10) ∷ [])) (same (omega arith) (omega arith)) ∙ sym (more-digits g k h)
-    go (no h) same = one-digit (suc f) k (omega arith) ∙ sym (one-digit (suc g) k (omega arith))
+enough (suc f) (suc g) k hf hg = by-cases (decLe 10 k)
+    (λ h. more-digits f k h ∙ ap (λ (w : List ℕ). w ++ (digitByte (k % 10) ∷ [])) (enough f g (k / 10) (omega arith) (omega arith)) ∙ sym (more-digits g k h))
+    (λ h. one-digit (suc f) k (omega arith) ∙ sym (one-digit (suc g) k (omega arith)))
 
 pub decimal-one : (k : ℕ) → k < 10 → decimal k ≡ digitByte k ∷ []
 unfolding decimal
@@ -41,11 +38,9 @@ module _ (P : ℕ → List ℕ → Type 0) (one : (k : ℕ) → k < 10 → P k (
     (more : (k : ℕ) (w : List ℕ) → 10 ≤ k → P (k / 10) w → P k (w ++ (digitByte (k % 10) ∷ []))) where
   by-fuel : (fuel k : ℕ) → k ≤ fuel → P k (decimal k)
   by-fuel zero k h = rw (decimal-one k (omega arith)) (one k (omega arith))
-  by-fuel (suc fuel) k h = go (decLe 10 k) (by-fuel fuel (k / 10))
-    where
-      go : Dec (10 ≤ k) → (k / 10 ≤ fuel → P (k / 10) (decimal (k / 10))) → P k (decimal k)
-      go (yes l) r = rw (decimal-more k l) (more k (decimal (k / 10)) l (r (omega arith)))
-      go (no l) r = rw (decimal-one k (omega arith)) (one k (omega arith))
+  by-fuel (suc fuel) k h = by-cases (decLe 10 k)
+      (λ l. rw (decimal-more k l) (more k (decimal (k / 10)) l (by-fuel fuel (k / 10) (omega arith))))
+      (λ l. rw (decimal-one k (omega arith)) (one k (omega arith)))
 
   pub by-digits : (k : ℕ) → P k (decimal k)
   by-digits k = by-fuel k k (omega arith)
@@ -53,8 +48,6 @@ module _ (P : ℕ → List ℕ → Type 0) (one : (k : ℕ) → k < 10 → P k (
 -- a number below 10 to the power d + 1 has at most d + 1 digits
 pub decimal-length : (d k : ℕ) → k < 10 ^ suc d → length (decimal k) ≤ suc d
 decimal-length zero k h = rw (decimal-one k (omega (arith, pow-suc 10 0))) (omega arith)
-decimal-length (suc d) k h = go (decLe 10 k) (decimal-length d (k / 10))
-  where
-    go : Dec (10 ≤ k) → (k / 10 < 10 ^ suc d → length (decimal (k / 10)) ≤ suc d) → length (decimal k) ≤ suc (suc d)
-    go (yes l) r = rw (decimal-more k l, length-append) (omega (arith, r (omega (arith, pow-suc 10 (suc d)))))
-    go (no l) r = rw (decimal-one k (omega arith)) (omega arith)
+decimal-length (suc d) k h = by-cases (decLe 10 k)
+    (λ l. rw (decimal-more k l, length-append) (omega (arith, decimal-length d (k / 10) (omega (arith, pow-suc 10 (suc d))))))
+    (λ l. rw (decimal-one k (omega arith)) (omega arith))

@@ -1,9 +1,9 @@
 -- The levels of an index, and their count: "The input levels count upward from all zeros, last input fastest."
 -- Assumes nothing.
-use Rattle.laws.specs.Prelude.{ℕ, _<_, _≤_, _+_, _-_, suc, _*_, zero, _%_, _/_, _≡_, _∙_, sym, ap, refl, true, false, Bool, _&&_, cond, and-false}
-use Rattle.laws.specs.Prelude.{List, [], _∷_, _++_, zero-add, suc-mul, pow-zero, mod-lt, div-add-mod', pow-succ', zero-div, div-div-eq-div-mul}
-use Rattle.laws.specs.Prelude.{div-one, zero-mod, add-one, decLe, arith, leb, length, getD, take, drop, length-append, replicate, length-drop}
-use Rattle.laws.specs.Prelude.{take-at, le-leb, lt-leb, digits-mod, digits-div}
+use Rattle.laws.specs.Prelude.{ℕ, _<_, _≤_, _+_, _-_, suc, _*_, zero, _%_, _/_, _≡_, _∙_, sym, ap, refl, true, false, Bool, _&&_, cond, and-false, List}
+use Rattle.laws.specs.Prelude.{[], _∷_, _++_, zero-add, suc-mul, pow-zero, mod-lt, div-add-mod', pow-succ', zero-div, div-div-eq-div-mul, div-one}
+use Rattle.laws.specs.Prelude.{zero-mod, add-one, decLe, arith, leb, length, getD, take, drop, length-append, replicate, length-drop, take-at, le-leb}
+use Rattle.laws.specs.Prelude.{lt-leb, digits-mod, digits-div}
 use Rattle.rules.specs.Lists.{range}
 use Rattle.rules.specs.Sheets.Sheets.{level, levelsAt}
 use Rattle.laws.specs.Lists.Concat.{map-append}
@@ -122,5 +122,4 @@ module _ (m n p : ℕ) (pos : 0 < m) (before after : List ℕ) (front : take n b
       (sym (levels-next m n p pos))
 
   pub front-kept : n ≤ length before → length after ≡ length before
-  front-kept fits =
-      rw (step, front) (simp (length-append, length-drop, next-length, levels-length) (omega arith))
+  front-kept fits = rw (step, front) (simp (length-append, length-drop, next-length, levels-length) (omega arith))

@@ -3,14 +3,14 @@
 use Rattle.laws.specs.Prelude.{ℕ, _<_, _≤_, _+_, _^_, _*_, max, _≡_, _∙_, sym, ap, refl, subst, ap₂, true, false, true≢false, cond, mul-le-mul-right}
 use Rattle.laws.specs.Prelude.{lt-of-lt-of-le, mul-comm, mul-assoc, add-mul, lt-of-le-of-lt, le-of-lt, mul-pos, max-eq-left, max-eq-right}
 use Rattle.laws.specs.Prelude.{mul-right-comm, eq-of-mul-eq-mul-right, le-max-left, le-max-right, le-of-mul-le-mul-right, lt-of-mul-lt-mul-right}
-use Rattle.laws.specs.Prelude.{mul-lt-mul-of-pos-right, decLt, arith, ltb, lit<, lit≤, lt-ltb, le-ltb, pow-mono, shl-lt}
+use Rattle.laws.specs.Prelude.{mul-lt-mul-of-pos-right, decLt, arith, ltb, lit<, lit≤, lt-ltb, le-ltb, pow-mono, shl-lt, by-cases}
+use Rattle.rules.specs.Nets.Arrivals.{quarter}
 use lib.IntN.{pos, negsuc}
 use lib.Ieee.{Float, fin, binary64, up, down, round, add, sum, mul, lt, ofInt, ofBits}
 use lib.Ieee.Exact.{HasValue, round-exact}
 use lib.Ieee.Fits.{down-pos}
 use lib.Ieee.Scale.{round-same}
 use lib.Ieee.Back.{round-whole}
-use Rattle.rules.specs.Nets.Arrivals.{quarter}
 
 -- numbers below this are exact
 abbrev pub exactBelow : ℕ
@@ -48,15 +48,14 @@ quarter-sum p q hp hq = sum-exact 4 (lit< tt) (quarter p) (quarter q) p q (quart
 -- ---- order
 
 cross : (x y a b c k : ℕ) → 0 < c → 0 < k → x * c ≡ a * k → y * c ≡ b * k → ltb x y ≡ ltb a b
-cross x y a b c k C K p q = go (decLt a b)
-  where
-    go : Dec (a < b) → ltb x y ≡ ltb a b
-    go (yes h) =
-        let less : x * c < y * c = rw (p, q) (mul-lt-mul-of-pos-right h K) in
-        lt-ltb x y (lt-of-mul-lt-mul-right c less) ∙ sym (lt-ltb a b h)
-    go (no h) =
-        let most : y * c ≤ x * c = rw (p, q) (mul-le-mul-right k (omega arith)) in
-        le-ltb x y (le-of-mul-le-mul-right most C) ∙ sym (le-ltb a b (omega arith))
+cross x y a b c k C K p q = elim (decLt a b) [
+  | yes h ↦
+      let less : x * c < y * c = rw (p, q) (mul-lt-mul-of-pos-right h K) in
+      lt-ltb x y (lt-of-mul-lt-mul-right c less) ∙ sym (lt-ltb a b h)
+  | no h ↦
+      let most : y * c ≤ x * c = rw (p, q) (mul-le-mul-right k (omega arith)) in
+      le-ltb x y (le-of-mul-le-mul-right most C) ∙ sym (le-ltb a b (omega arith))
+]
 
 pub order-exact : (c : ℕ) → 0 < c → (x y : Float) (a b : ℕ) → HasValue x false a c → HasValue y false b c → lt x y ≡ ltb a b
 unfolding lt
@@ -98,11 +97,9 @@ laterOf x y = cond (lt x y) y x
 
 pub quarter-later : (p q : ℕ) → p < exactBelow → q < exactBelow → laterOf (quarter p) (quarter q) ≡ quarter (max p q)
 unfolding laterOf
-quarter-later p q hp hq = rw (quarter-order p q hp hq) (go (decLt p q))
-  where
-    go : Dec (p < q) → cond (ltb p q) (quarter q) (quarter p) ≡ quarter (max p q)
-    go (yes h) = rw (lt-ltb p q h, max-eq-right (le-of-lt h)) refl
-    go (no h) = let most : q ≤ p = omega arith in rw (le-ltb p q most, max-eq-left most) refl
+quarter-later p q hp hq = rw (quarter-order p q hp hq) (by-cases (decLt p q)
+    (λ h. rw (lt-ltb p q h, max-eq-right (le-of-lt h)) refl)
+    (λ h. let most : q ≤ p = omega arith in rw (le-ltb p q most, max-eq-left most) refl))
 
 -- .. plus one delay
 pub quarter-joined : (p q d : ℕ) → max p q < exactBelow → d < exactBelow → add binary64 (laterOf (quarter p) (quarter q)) (quarter d) ≡ quarter (max p q + d)

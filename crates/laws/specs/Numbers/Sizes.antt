@@ -1,10 +1,10 @@
 -- The bounds of levels, inputs and cells as inequalities.
 -- Assumes nothing.
 use Rattle.laws.specs.Prelude.{ℕ, _≤_, _+_, _-_, _^_, _≡_, _↔_, true, Bool, _&&_, not, and-eq-true-iff, _||_, arith, leb, le-leb, leb-true}
-use Rattle.rules.specs.Lists.{range, all}
 use Rattle.rules.specs.Limits.{fewestLevels, mostLevels, fewestInputs, mostInputs, mostCells, levelsFit, inputsFit, cellsFit, sizeFits}
-use Rattle.rules.specs.Sheets.Sheets.{Header}
+use Rattle.rules.specs.Lists.{range, all}
 use Rattle.rules.specs.Sheets.SheetRules.{HeaderRules}
+use Rattle.rules.specs.Sheets.Sheets.{Header}
 use Rattle.laws.specs.Lists.Ranges.{mem-range}
 use Rattle.laws.specs.Lists.Tests.{all-mem, both-leb}
 
@@ -30,13 +30,7 @@ sized m n e =
     let (levels, inputs) = and-eq-true-iff (levelsFit m) (inputsFit n) .0 sides in
     let (a, b) = levels-fit m .0 levels in
     let (c, d) = inputs-fit n .0 inputs in
-    record {
-      levels-least = a;
-      levels-most = b;
-      inputs-least = c;
-      inputs-most = d;
-      cells-most = leb-true _ _ cells;
-    }
+    record { levels-least = a; levels-most = b; inputs-least = c; inputs-most = d; cells-most = leb-true _ _ cells }
 
 -- a header that follows the rules is within the bounds
 pub kept-fits : (h : Header) → HeaderRules h → sizeFits (h .levels) (h .inputs) ≡ true

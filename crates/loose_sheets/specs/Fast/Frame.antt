@@ -1,24 +1,29 @@
--- The layout of a row, place by place: the bytes allowed there, and the weight of a level there in the index.
+-- The layout of a row, place by place: the bytes that fit there, and the weight of a level there in the index.
 -- Assumes nothing.
 use Rattle.laws.specs.Prelude.{ℕ, _<_, _≤_, _+_, _-_, _^_, _≡_, List, length, getD}
-use Rattle.rules.specs.Text.{zeroByte, spaceByte}
+use Rattle.rules.specs.Limits.{mostCells}
 
--- the most places of a row that are compared
+-- the most places of a row that are compared, and the numbers of a frame
 abbrev pub mostLaid : ℕ
 mostLaid = 128
 
-module _ (least more weights : List ℕ) where
+abbrev pub frameLength : ℕ
+frameLength = 384
+
+module _ (frame : List ℕ) where
+  -- the numbers of place j: a byte fits if the byte plus `shift`, modulo 2 ^ 16, is at least `least`
+  pub record PlaceAt (j shift least weight : ℕ) : Type 0 where
+    pub shifts : getD frame j 0 ≡ shift
+    pub bounds : getD frame (128 + j) 0 ≡ least
+    pub weighs : getD frame (256 + j) 0 ≡ weight
+
   -- place j has a space, ..
-  pub record SpaceAt (j : ℕ) : Type 0 where
-    pub byte : getD least j 0 ≡ spaceByte
-    pub alone : getD more j 0 ≡ 0
-    pub weight : getD weights j 0 ≡ 0
+  abbrev pub SpaceAt : ℕ → Type 0
+  SpaceAt j = PlaceAt j 65503 65535 0
 
   -- .. or a level below m, with this many levels after it
-  pub record LevelAt (m j after : ℕ) : Type 0 where
-    pub byte : getD least j 0 ≡ zeroByte
-    pub below : getD more j 0 + 1 ≡ m
-    pub weight : getD weights j 0 ≡ m ^ after
+  abbrev pub LevelAt : ℕ → ℕ → ℕ → Type 0
+  LevelAt m j after = PlaceAt j (65488 - m) (65536 - m) (m ^ after)
 
   -- the first j places of a row are laid out, and have i of the n levels, each followed by a space
   pub data LooseLaid (m n : ℕ) : ℕ → ℕ → Type 0 where
@@ -27,10 +32,9 @@ module _ (least more weights : List ℕ) where
     laid-level : (j i k h : ℕ) → LooseLaid m n j i → i < n → LevelAt m j (n - (i + 1)) → SpaceAt (j + 1) → k ≡ j + 2 → h ≡ i + 1 → LooseLaid m n k h
 
 -- the ink is at `width`, and from there on no place has a weight; if `width` is 0, there is no frame
-pub record Framed (m n : ℕ) (least more weights : List ℕ) (width : ℕ) : Type 0 where
-  pub long-least : length least ≡ mostLaid
-  pub long-more : length more ≡ mostLaid
-  pub long-weights : length weights ≡ mostLaid
+pub record Framed (m n : ℕ) (frame : List ℕ) (width : ℕ) : Type 0 where
+  pub long : length frame ≡ frameLength
+  pub light : (k : ℕ) → getD frame (256 + k) 0 ≤ mostCells
   pub most : width ≤ mostLaid
-  pub laid : 0 < width → LooseLaid least more weights m n width n
-  pub rest : 0 < width → (k : ℕ) → width ≤ k → getD weights k 0 ≡ 0
+  pub laid : 0 < width → LooseLaid frame m n width n
+  pub rest : 0 < width → (k : ℕ) → width ≤ k → getD frame (256 + k) 0 ≡ 0

@@ -1,83 +1,70 @@
--- A row matches its frame.
+-- A row matches its frame, and its bytes have a weighted sum.
 -- Assumes nothing.
-use Rattle.laws.specs.Prelude.{ℕ, _<_, _≤_, _+_, _-_, _^_, _*_, _%_, _/_, _≡_, refl, true, false, Bool, List, arith, ltb, leb, length, getD, le-leb}
-use Rattle.laws.specs.Prelude.{lt-leb, leb-true, ltb-true, leb-false, ltb-false}
+use Rattle.laws.specs.Prelude.{ℕ, _<_, _≤_, _+_, suc, _*_, zero, _%_, _/_, _^_, _≡_, _∙_, ap, refl, true, false, Bool, List, mul-zero, add-one, arith, ltb}
+use Rattle.laws.specs.Prelude.{length, getD, ltb-true, ltb-false}
 use Rattle.rules.specs.Text.{spaceByte}
 use Rattle.loose_sheets.specs.Fast.Frame.{mostLaid}
 
--- the byte at place k is within its bounds: it is at least `least` and at most `more` above it, modulo 256
-pub record InBounds (s : List ℕ) (at : ℕ) (least more : List ℕ) (k : ℕ) : Type 0 where
-  pub above : ℕ
-  pub most : above ≤ getD more k 0
-  pub is : (above + getD least k 0) % 2 ^ 8 ≡ getD s (at + k) 0
+module _ (s : List ℕ) (at : ℕ) (frame : List ℕ) where
+  -- the byte at place k fits
+  pub record FitsAt (k : ℕ) : Type 0 where
+    pub byte : getD s (at + k) 0 < 256
+    pub fits : getD frame (128 + k) 0 ≤ (getD s (at + k) 0 + getD frame k 0) % 2 ^ 16
 
--- all bytes from place `from` to place `to` are within their bounds
-abbrev pub Stand : List ℕ → ℕ → List ℕ → List ℕ → ℕ → ℕ → Type 0
-Stand s at least more from to = (k : ℕ) → from ≤ k → k < to → InBounds s at least more k
+  -- the first `to` bytes fit
+  abbrev pub Fit : ℕ → Type 0
+  Fit to = (k : ℕ) → k < to → FitsAt k
 
--- one more byte
-pub stand-next : (s : List ℕ) (at : ℕ) (least more : List ℕ) (from k : ℕ) → Stand s at least more from (from + k) → InBounds s at least more (from + k)
-    → Stand s at least more from (from + (k + 1))
-stand-next s at least more from k stand here q a b = go (ltb q (from + k)) refl
-  where
-    go : (t : Bool) → ltb q (from + k) ≡ t → InBounds s at least more q
-    go true e = stand q a (ltb-true q (from + k) e)
-    go false e = let same : q ≡ from + k = omega (arith, b, ltb-false q (from + k) e) in rw same here
+  pub fit-next : (k : ℕ) → Fit k → FitsAt k → Fit (k + 1)
+  fit-next k fit here q b = go (ltb q k) refl
+    where
+      go : (t : Bool) → ltb q k ≡ t → FitsAt q
+      go true e = fit q (ltb-true q k e)
+      go false e = let same : q ≡ k = omega (arith, b, ltb-false q k e) in rw same here
+
+  -- what the first k places add to the index: the low half of a digit's byte is the level
+  unfoldable pub counted : ℕ → ℕ
+  counted zero = 0
+  counted (suc k) = counted k + (getD s (at + k) 0 % 16) * getD frame (256 + k) 0
+
+  pub counted-next : (k : ℕ) → counted (k + 1) ≡ counted k + (getD s (at + k) 0 % 16) * getD frame (256 + k) 0
+  unfolding counted
+  counted-next k = rw add-one refl
+
+  pub counted-adds : (k sum r : ℕ) → sum ≡ counted k % 2 ^ 16 → r ≡ (sum + (getD s (at + k) 0 % 16) * getD frame (256 + k) 0) % 2 ^ 16
+      → r ≡ counted (k + 1) % 2 ^ 16
+  counted-adds k sum r so-far adds = omega (arith, so-far, adds, counted-next k)
+
+  -- places without weight add nothing
+  pub counted-on : (j : ℕ) → ((k : ℕ) → j ≤ k → getD frame (256 + k) 0 ≡ 0) → (k : ℕ) → counted (j + k) ≡ counted j
+  counted-on j none zero = ap counted (omega arith)
+  counted-on j none (suc k) =
+      let one : j + suc k ≡ j + k + 1 = omega arith in
+      let here : (getD s (at + (j + k)) 0 % 16) * getD frame (256 + (j + k)) 0 ≡ 0 = rw (none (j + k) (omega arith)) (mul-zero _) in
+      rw one (counted-next (j + k) ∙ omega (arith, here, counted-on j none k))
+
+  -- the sum of the first `count` bytes, if they fit
+  pub record Fitted (count r : ℕ) : Type 0 where
+    pub fit : Fit count
+    pub sum : r ≡ counted count % 2 ^ 16
+
+  abbrev pub Weighed : ℕ → ℕ → Type 0
+  Weighed count r = r < 65536 → Fitted count r
 
 -- this many places, rounded up to whole steps of sixteen
-unfoldable pub inSteps : ℕ → ℕ
-inSteps width = (width + 16 - 1) / 16 * 16
+abbrev pub inSteps : ℕ → ℕ
+inSteps width = (width + 15) / 16 * 16
 
--- the number of places compared in a row of this width: whole steps for a narrow row; for any other at least 64, and whole steps beyond
-unfoldable pub lookedAt : ℕ → ℕ
-lookedAt width = elim (leb width 32) [ true ↦ inSteps width | false ↦ elim (leb width 64) [ true ↦ 64 | false ↦ inSteps width ] ]
-
--- the row at `at` matches its frame, with room for all places that are compared, and its ink is at `width`
-pub record InFrame (s : List ℕ) (at : ℕ) (least more : List ℕ) (width : ℕ) : Type 0 where
-  pub some : 0 < width
-  pub room : at + lookedAt width < length s
-  pub stand : Stand s at least more 0 (lookedAt width)
-  pub other : getD s (at + width) 0 ≡ spaceByte → ⊥
-
-pub looked-few : (width : ℕ) → width ≤ 32 → lookedAt width ≡ inSteps width
-unfolding lookedAt
-looked-few width h = rw (lookedAt, le-leb width 32 h) refl
-
-pub looked-first : (width : ℕ) → 32 < width → width ≤ 64 → lookedAt width ≡ 64
-unfolding lookedAt
-looked-first width h k = rw (lookedAt, lt-leb width 32 h, le-leb width 64 k) refl
-
-pub looked-more : (width : ℕ) → 64 < width → lookedAt width ≡ inSteps width
-unfolding lookedAt
-looked-more width h = rw (lookedAt, lt-leb width 32 (omega arith), lt-leb width 64 h) refl
-
-steps-bounds : (width : ℕ) → width ≤ mostLaid → (width ≤ inSteps width) × (inSteps width ≤ mostLaid)
-unfolding inSteps
+pub steps-bounds : (width : ℕ) → width ≤ mostLaid → (width ≤ inSteps width) × (inSteps width ≤ mostLaid)
 steps-bounds width most = (omega arith, omega (arith, most))
 
--- they cover the width, and the first 64 places of a row that is not narrow, and stay within the frame
-pub looked-bounds : (width : ℕ) → width ≤ mostLaid → (32 < width → 64 ≤ lookedAt width) × (width ≤ lookedAt width) × (lookedAt width ≤ mostLaid)
-looked-bounds width most = go (leb width 32) refl (leb width 64) refl
-  where
-    go : (b : Bool) → leb width 32 ≡ b → (c : Bool) → leb width 64 ≡ c → (32 < width → 64 ≤ lookedAt width) × (width ≤ lookedAt width)
-        × (lookedAt width ≤ mostLaid)
-    go true e c f =
-        let few = leb-true width 32 e in
-        let (low, high) = steps-bounds width most in
-        rw (looked-few width few) (λ more. absurd (omega (arith, few, more)), low, high)
-    go false e true f =
-        let first = leb-true width 64 f in
-        rw (looked-first width (leb-false width 32 e) first) (λ _. omega arith, first, omega arith)
-    go false e false f =
-        let more = leb-false width 64 f in
-        let (low, high) = steps-bounds width most in
-        rw (looked-more width more) (λ _. omega (arith, low, more), low, high)
+-- the row at `at` matches its frame, with room for whole steps, and its ink is at `width`
+pub record InFrame (s : List ℕ) (at : ℕ) (frame : List ℕ) (width r : ℕ) : Type 0 where
+  pub some : 0 < width
+  pub room : at + inSteps width < length s
+  pub fitted : Fitted s at frame (inSteps width) r
+  pub other : getD s (at + width) 0 ≡ spaceByte → ⊥
 
--- two parts, one after the other
-pub stand-both : (s : List ℕ) (at : ℕ) (least more : List ℕ) (from mid to : ℕ) → Stand s at least more from mid → Stand s at least more mid to
-    → Stand s at least more from to
-stand-both s at least more from mid to first second q a b = go (ltb q mid) refl
-  where
-    go : (t : Bool) → ltb q mid ≡ t → InBounds s at least more q
-    go true e = first q a (ltb-true q mid e)
-    go false e = second q (ltb-false q mid e) b
+-- either r is the sum of a row that matches its frame, or greater than any index
+abbrev pub FrameRead : List ℕ → ℕ → List ℕ → ℕ → ℕ → Type 0
+FrameRead s at frame width r = r < 65536 → InFrame s at frame width r

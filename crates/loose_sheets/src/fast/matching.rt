@@ -1,92 +1,58 @@
-// Tests whether a row matches its frame: its bytes are within their bounds, and its ink is not a space.
+// The index of a row that matches its frame: its bytes fit, and its ink is not a space.
 ghost use mathlib.Core.Path.{_≡_};
-ghost use mathlib.Core.Bool.{true};
-ghost use Prim.Native.Nat.{_+_, _≤_};
-ghost use lib.ListN.{length};
-ghost use Rattle.loose_sheets.specs.Fast.Frame.{mostLaid};
-ghost use Rattle.loose_sheets.specs.Fast.Matching.{Stand, InFrame, inSteps, lookedAt};
+ghost use Prim.Native.Nat.{ℕ, _+_, _≤_};
+ghost use lib.ListN.{length, getD};
+ghost use Rattle.rules.specs.Limits.{mostCells};
+ghost use Rattle.loose_sheets.specs.Fast.Frame.{mostLaid, frameLength};
+ghost use Rattle.loose_sheets.specs.Fast.Matching.{Weighed, FrameRead};
+use crate::fast::frame::LEAST;
+use crate::fast::frame::WEIGHT;
 use fields::runs::SPACE;
-use std::num::wrapping_sub_u8;
+use std::num::wrapping_add_u16;
 
-// A row of at most FEW places is compared in steps of sixteen. A wider one has its first FIRST places compared at once, the rest in steps of sixteen.
-pub const FEW: usize = 32;
+// Greater than any index: the row does not match its frame.
+pub const UNFRAMED: usize = 65536;
 
-pub const FIRST: usize = 64;
-
-const STEP: usize = 16;
-
-// Tests whether `count` bytes of the row, from place `from` on, are within their bounds. No early exit from the loop, so the compiler can vectorise.
-fn bytes_fit(s: &[u8], at: usize, least: &[u8], more: &[u8], from: usize, count: usize) -> bool
-    requires { ⌜ (at + from + count ≤ length (now s)) × (from + count ≤ length (now least)) × (from + count ≤ length (now more)) ⌝ }
-    ensures { λ r. ⌜ (r ≡ true → Stand (now (s .entry)) at (now (least .entry)) (now (more .entry)) from (from + count)) ⌝ }
+// Returns the weighted sum of the first `count` bytes of the row at `at` if they all fit. No early exit from the loop, so the compiler can vectorise.
+fn weigh(s: &[u8], at: usize, count: usize, frame: &[u16]) -> usize
+    requires { ⌜ (at + count ≤ length (now s)) × (count ≤ mostLaid) × (length (now frame) ≡ frameLength)
+        × ((k : ℕ) → getD (now frame) (256 + k) 0 ≤ mostCells) ⌝ }
+    ensures { λ r. ⌜ Weighed (now (s .entry)) at (now (frame .entry)) count r ⌝ }
 {
-    let mut over: u8 = 0;
+    let mut over = false;
+    let mut sum: u16 = 0;
     let mut k: usize = 0;
     while k < count {
-        let above = wrapping_sub_u8(s[at + from + k], least[from + k]);
-        if more[from + k] < above {
-            over = 1;
+        let byte = s[at + k] as u16;
+        if wrapping_add_u16(byte, frame[k]) < frame[LEAST + k] {
+            over = true;
         }
+        sum = wrapping_add_u16(sum, byte % 16 * frame[WEIGHT + k]);
         k += 1;
     }
-    over == 0
+    if over {
+        return UNFRAMED;
+    }
+    sum as usize
 }
 
-// Rounds a number of places up to whole steps.
-fn in_steps(width: usize) -> usize
-    requires { ⌜ width ≤ mostLaid ⌝ }
-    ensures { λ r. ⌜ r ≡ inSteps width ⌝ }
+// Returns the index of the row at `at` if it matches its frame, with room for whole steps of sixteen bytes.
+pub fn framed_index(s: &[u8], at: usize, frame: &[u16], width: usize) -> usize
+    requires { ⌜ (width ≤ mostLaid) × (length (now frame) ≡ frameLength) × ((k : ℕ) → getD (now frame) (256 + k) 0 ≤ mostCells) ⌝ }
+    ensures { λ r. ⌜ FrameRead (now (s .entry)) at (now (frame .entry)) width r ⌝ }
 {
-    (width + STEP - 1) / STEP * STEP
-}
-
-// Returns how many places of a row are compared, for its width.
-pub fn looked_at(width: usize) -> usize
-    requires { ⌜ width ≤ mostLaid ⌝ }
-    ensures { λ r. ⌜ r ≡ lookedAt width ⌝ }
-{
-    if width <= FEW {
-        return in_steps(width);
-    }
-    if width <= FIRST {
-        return FIRST;
-    }
-    in_steps(width)
-}
-
-// Tests whether all bytes that are compared are within their bounds.
-fn row_fits(s: &[u8], at: usize, least: &[u8], more: &[u8], width: usize) -> bool
-    requires { ⌜ (at + lookedAt width ≤ length (now s)) × (mostLaid ≤ length (now least)) × (mostLaid ≤ length (now more)) × (width ≤ mostLaid) ⌝ }
-    ensures { λ r. ⌜ (r ≡ true → Stand (now (s .entry)) at (now (least .entry)) (now (more .entry)) 0 (lookedAt width)) ⌝ }
-{
-    if FEW < width {
-        if !bytes_fit(s, at, least, more, 0, FIRST) {
-            return false;
-        }
-        if width <= FIRST {
-            return true;
-        }
-        return bytes_fit(s, at, least, more, FIRST, looked_at(width) - FIRST);
-    }
-    bytes_fit(s, at, least, more, 0, looked_at(width))
-}
-
-// Tests whether the row at `at` matches its frame, with room for all places that are compared.
-pub fn in_frame(s: &[u8], at: usize, least: &[u8], more: &[u8], width: usize) -> bool
-    requires { ⌜ (mostLaid ≤ length (now least)) × (mostLaid ≤ length (now more)) × (width ≤ mostLaid) ⌝ }
-    ensures { λ r. ⌜ (r ≡ true → InFrame (now (s .entry)) at (now (least .entry)) (now (more .entry)) width) ⌝ }
-{
-    if width == 0 {
-        return false;
-    }
+    let count = (width + 15) / 16 * 16;
     if s.len() < at {
-        return false;
+        return UNFRAMED;
     }
-    if s.len() - at <= looked_at(width) {
-        return false;
+    if s.len() - at <= count {
+        return UNFRAMED;
     }
-    if !row_fits(s, at, least, more, width) {
-        return false;
+    if width == 0 {
+        return UNFRAMED;
     }
-    s[at + width] != SPACE
+    if s[at + width] == SPACE {
+        return UNFRAMED;
+    }
+    weigh(s, at, count, frame)
 }

@@ -7,8 +7,8 @@ ghost use Rattle.rules.specs.Limits.{sizeFits, mostLevels};
 ghost use Rattle.loose_sheets.specs.Fast.Frame.{Framed};
 ghost use Rattle.loose_sheets.specs.Reader.Index.{IndexRead};
 ghost use Rattle.loose_sheets.specs.Reader.Row.{RowReads, rowAs, inkOfRow};
-use crate::fast::matching::in_frame;
-use crate::fast::weighing::all_weighed;
+use crate::fast::matching::UNFRAMED;
+use crate::fast::matching::framed_index;
 use crate::reader::inks::ink_field;
 use crate::reader::levels::level_field;
 use fields::steps::Step;
@@ -55,30 +55,22 @@ fn judged_index(s: &[u8], at: usize, m: usize, n: usize) -> Step
 }
 
 // Reads a row's levels and returns its index; levels that match the frame are read in one step.
-pub fn index_fields(
-    s: &[u8],
-    at: usize,
-    m: usize,
-    n: usize,
-    least: &[u8],
-    more: &[u8],
-    weights: &[u16],
-    width: usize,
-) -> Step
-    requires { ⌜ (sizeFits m n ≡ true) × Framed m n (now least) (now more) (now weights) width ⌝ }
+fn index_fields(s: &[u8], at: usize, m: usize, n: usize, frame: &[u16], width: usize) -> Step
+    requires { ⌜ (sizeFits m n ≡ true) × Framed m n (now frame) width ⌝ }
     ensures { λ r. ⌜ IndexRead (now (s .entry)) at m n r ⌝ }
 {
-    if !in_frame(s, at, least, more, width) {
+    let index = framed_index(s, at, frame, width);
+    if UNFRAMED <= index {
         return judged_index(s, at, m, n);
     }
     Step::On {
-        value: all_weighed(s, at, weights, width),
+        value: index,
         next: at + width,
     }
 }
 
 // Reads the rest of a row that names the assignment of this index.
-pub fn row_ink(s: &[u8], at: usize, m: usize, index: usize) -> RowRead
+fn row_ink(s: &[u8], at: usize, m: usize, index: usize) -> RowRead
     requires { ⌜ m ≤ mostLevels ⌝ }
     ensures { λ r. ⌜ rowAs (now (s .entry)) r ≡ inkOfRow m index (drop at (now (s .entry))) at ⌝ }
 {
@@ -98,16 +90,14 @@ pub fn row(
     at: usize,
     m: usize,
     n: usize,
-    least: &[u8],
-    more: &[u8],
-    weights: &[u16],
+    frame: &[u16],
     width: usize,
     given: &[u8],
 ) -> RowRead
-    requires { ⌜ (sizeFits m n ≡ true) × Framed m n (now least) (now more) (now weights) width × (m ^ n ≤ length (now given)) ⌝ }
+    requires { ⌜ (sizeFits m n ≡ true) × Framed m n (now frame) width × (m ^ n ≤ length (now given)) ⌝ }
     ensures { λ r. ⌜ RowReads (now (s .entry)) at m n (now (given .entry)) r ⌝ }
 {
-    match index_fields(s, at, m, n, least, more, weights, width) {
+    match index_fields(s, at, m, n, frame, width) {
         Step::Back { number, place } => RowRead::Turned { number, place },
         Step::On { value, next } => {
             if given[value] != 0 {

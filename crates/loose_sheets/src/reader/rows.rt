@@ -5,7 +5,8 @@ ghost use Prim.Native.Nat.{_^_, _≤_};
 ghost use lib.ListN.{length};
 ghost use Rattle.rules.specs.Limits.{sizeFits};
 ghost use Rattle.loose_sheets.specs.Reader.Rows.{LooseRowsRead, Blank};
-use crate::fast::frame::frame_of;
+use crate::fast::frame::FRAME;
+use crate::fast::frame::lay;
 use crate::reader::row::RowRead;
 use crate::reader::row::row;
 use fields::steps::Step;
@@ -18,17 +19,13 @@ pub fn rows(s: &[u8], at: usize, m: usize, n: usize, cells: &mut [u8]) -> Step
     ensures { λ r. ⌜ LooseRowsRead (now (s .entry)) at m n (now (cells .exit)) r ⌝ }
 {
     let mut given = [0u8; MOST_CELLS];
+    let mut frame = [0u16; FRAME];
+    let width = lay(s, at, m, n, &mut frame);
     let count = power(m, n);
-    let frame = frame_of(s, at, m, n);
-    let least = frame.least;
-    let more = frame.more;
-    let weights = frame.weights;
-    let width = frame.width;
     let mut place = at;
     let mut k: usize = 0;
     while k < count {
-        let read = row(s, place, m, n, &least, &more, &weights, width, &given);
-        match read {
+        match row(s, place, m, n, &frame, width, &given) {
             RowRead::Turned { number, place } => return Step::Back { number, place },
             RowRead::Taken { index, ink, next } => {
                 cells[index] = ink as u8;

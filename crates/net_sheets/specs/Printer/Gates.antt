@@ -17,7 +17,10 @@ use Rattle.laws.specs.Lists.Ranges.{range-next, range-none, map-range-at}
 abbrev pub referenceIn : List ℕ → Header → ℕ → List ℕ
 referenceIn s h r = referenceText (namesIn s h) r
 
--- the line of the gate with k gates before it, and all gate lines
+-- the line of a gate with these parts, that of the gate with k gates before it, and all gate lines
+abbrev pub printedParts : List ℕ → Header → ℕ → ℕ → List ℕ → List ℕ
+printedParts s h left right digits = printedGate (namesIn s h) (record { left = left; right = right; digits = digits })
+
 abbrev pub printedGateAt : List ℕ → Header → Net → ℕ → List ℕ
 printedGateAt s h net k = printedGate (namesIn s h) (gateOf net k)
 

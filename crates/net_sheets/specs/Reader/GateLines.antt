@@ -2,6 +2,7 @@
 -- Assumes nothing.
 use Rattle.laws.specs.Prelude.{ℕ, _<_, _≤_, _+_, _-_, suc, _*_, _≡_, _∙_, refl, false, Bool, List, [], _∷_, _++_, add-zero, sub-zero, add-assoc, arith}
 use Rattle.laws.specs.Prelude.{length, drop, replicate, drop-of-length-le, drop-cons, paste}
+use Rattle.rules.specs.Limits.{mostInputs}
 use Rattle.rules.specs.Lists.{range}
 use Rattle.rules.specs.Sheets.Fields.{then}
 use Rattle.rules.specs.Sheets.Sheets.{usedBy, gateLine, orEnd, gateLines}
@@ -12,7 +13,7 @@ use Rattle.fields.specs.Steps.{stepAs}
 use Rattle.fields.specs.declared.steps.Step.the-variants.{On, Back}
 use Rattle.nets.specs.Forms.{gatesOf, noGates, namesIn, names-count}
 use Rattle.nets.specs.Growing.{grown}
-use Rattle.nets.specs.Room.{mostWires, mostDigits, gate-room}
+use Rattle.nets.specs.Room.{mostGates, mostWires, mostDigits, gate-room}
 use Rattle.nets.specs.Sound.{gates-length}
 use Rattle.nets.specs.declared.forms.Header.{Header}
 use Rattle.nets.specs.declared.forms.Net.{Net}
@@ -32,6 +33,16 @@ pub record NetWhole (h : Header) (net : Net) : Type 0 where
   pub inputs : net .inputs ≡ h .inputs
   pub some : 0 < net .gates
   pub count : net .gates < h .inputs
+
+-- the forms have room for one more gate
+pub record GateRoom (inputs gates : ℕ) : Type 0 where
+  pub place : gates < mostGates
+  pub wires : inputs + gates < mostWires
+  pub count : inputs + gates ≤ mostWires
+  pub number : gates + 1 < 100
+
+pub gate-place : (inputs gates : ℕ) → inputs ≤ mostInputs → gates + 1 < inputs → GateRoom inputs gates
+gate-place inputs gates most more = record { place = omega arith; wires = omega arith; count = omega arith; number = omega arith }
 
 -- reading the gate lines under a header
 pub record GatesAll (s : List ℕ) (at : ℕ) (h : Header) (r : GatesRead) : Type 0 where
@@ -115,25 +126,23 @@ module _ (s : List ℕ) (at : ℕ) (h : Header) (keys lens : List ℕ) (net : Ne
     pub build-room : HeaderHeld s h → (net .gates + 1) * (h .levels * h .levels) ≤ mostDigits
     build-room held = gate-room (h .levels) (h .inputs) (held .fits) (net .gates) (omega arith)
 
-    -- the net with the line's gate
-    pub build-grown : HeaderHeld s h → (left right digits next : ℕ) → r ≡ Gate left right digits next → (written : List ℕ)
-        → written ≡ paste (net .digits) (net .gates * (h .levels * h .levels)) (digitsAt s digits (h .levels * h .levels)) (h .levels * h .levels)
-        → NetGrown net (record { left = left; right = right; digits = digitsAt s digits (h .levels * h .levels) }) (grown net left right written)
-    build-grown held left right digits next e written pasted =
-        let size = sized (h .levels) (h .inputs) (held .fits) in
-        let within = built-line .held left right digits next e .digits .within in
-        form-grown net left right (digitsAt s digits (h .levels * h .levels)) written (building .form) (omega (arith, size .inputs-most))
-        (rw (building .levels) (build-room held)) (rw (building .levels) (net-digits-count s digits (h .levels * h .levels) within))
-        (rw (building .levels) pasted)
-
     -- a line was read, and its gate is in the net
-    module _ (left right digits next : ℕ) (e : r ≡ Gate left right digits next) (more-net : Net)
-        (is : NetGrown net (record { left = left; right = right; digits = digitsAt s digits (h .levels * h .levels) }) more-net) where
-      built-marked : Marked after (usedBy (gatesOf more-net))
+    module _ (held : HeaderHeld s h) (left right digits next : ℕ) (e : r ≡ Gate left right digits next) (written : List ℕ)
+        (pasted : written ≡ paste (net .digits) (net .gates * (h .levels * h .levels)) (digitsAt s digits (h .levels * h .levels))
+        (h .levels * h .levels)) where
+      is : NetGrown net (record { left = left; right = right; digits = digitsAt s digits (h .levels * h .levels) }) (grown net left right written)
+      is =
+          let size = sized (h .levels) (h .inputs) (held .fits) in
+          let within = built-line .held left right digits next e .digits .within in
+          form-grown net left right (digitsAt s digits (h .levels * h .levels)) written (building .form) (omega (arith, size .inputs-most))
+          (rw (building .levels) (build-room held)) (rw (building .levels) (net-digits-count s digits (h .levels * h .levels) within))
+          (rw (building .levels) pasted)
+
+      built-marked : Marked after (usedBy (gatesOf (grown net left right written)))
       built-marked = rw (is .gates) (gate-marked after _ (gatesOf net) (built-line .held left right digits next e .marked))
 
       -- the sheet ends after it
-      pub build-end : length s ≤ next → GatesAll s at h (record { step = On 0 next; net = more-net; used = after })
+      pub build-end : length s ≤ next → GatesAll s at h (record { step = On 0 next; net = grown net left right written; used = after })
       unfolding then orEnd
       build-end end =
           record {
@@ -151,7 +160,7 @@ module _ (s : List ℕ) (at : ℕ) (h : Header) (keys lens : List ℕ) (net : Ne
 
       -- the sheet continues
       pub build-next : next < length s → (more-keys more-lens : List ℕ) → NumberKeyed (h .inputs) (net .gates) keys lens more-keys more-lens
-          → Building s at h more-keys more-lens more-net after next
+          → Building s at h more-keys more-lens (grown net left right written) after next
       unfolding then orEnd NumberKeyed
       build-next goes more-keys more-lens numbered =
           record {

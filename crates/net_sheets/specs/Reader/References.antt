@@ -33,6 +33,13 @@ pub record Referred (keys lens : List ℕ) (count : ℕ) (w : List ℕ) (r : Fou
   pub finds : (names : List (List ℕ)) → Keyed names keys lens count → optionOf r ≡ find (λ k. same w (referenceText names k)) (range 0 count)
   pub below : (k : ℕ) → r ≡ At k → k < count
 
+-- a place that was found is below `count`, and nowhere is no place
+pub at-below : (count r k : ℕ) → r < count → At r ≡ At k → k < count
+at-below count r k below e = let same-place : r ≡ k = cc in omega arith
+
+pub nowhere-below : (count k : ℕ) → Nowhere ≡ At k → k < count
+nowhere-below count k e = absurd (let z : _≡_ {A = ℕ} 0 1 = cc in omega arith)
+
 -- a long field refers to nothing
 pub long-refers : (keys lens : List ℕ) (count : ℕ) (w : List ℕ) → mostNameBytes < length w → Referred keys lens count w Nowhere
 long-refers keys lens count w long =
@@ -40,7 +47,7 @@ long-refers keys lens count w long =
       finds = λ names keyed.
           nothing-found (first-in-range _ 0 count)
           (λ k p. omega (arith, ap length (same-true w (referenceText names k) (p .2)), keyed .each k (omega arith) .short));
-      below = λ k e. absurd (let z : _≡_ {A = ℕ} 0 1 = cc in omega arith);
+      below = nowhere-below count;
     }
   where
     nothing-found : {P : ℕ → Type 0} {R : ℕ → ℕ → Type 0} {o : Option ℕ} → First P R o → ((k : ℕ) → P k → ⊥) → none ≡ o

@@ -4,10 +4,10 @@ ghost use mathlib.Core.List.{[], _∷_, _++_, map};
 ghost use lib.ListN.{length, getD};
 ghost use Rattle.rules.specs.Text.{digitByte, space};
 ghost use Rattle.rules.specs.Sheets.Printed.{printedNet};
-ghost use Rattle.nets.specs.Forms.{gateOf, netIn};
+ghost use Rattle.nets.specs.Forms.{netIn};
 ghost use Rattle.net_sheets.specs.Text.Put.{Put, PutRoom, NetWrote};
 ghost use Rattle.net_sheets.specs.Text.Names.{NamesInside};
-ghost use Rattle.net_sheets.specs.Printer.Gates.{referenceIn, GatesInside, printedGateAt, printedGates};
+ghost use Rattle.net_sheets.specs.Printer.Gates.{referenceIn, GatesInside, printedParts, printedGates};
 use crate::text::decimals::print_decimal;
 use crate::text::header::print_name;
 use crate::text::header::print_names_line;
@@ -18,16 +18,16 @@ use crate::text::wide::wide;
 use nets::forms::Header;
 use nets::forms::Net;
 
-// Writes a reference: an input's name or a gate's number.
-fn print_reference(s: &[u8], h: Header, r: usize, out: &mut [u8], at: usize) -> usize
-    requires { ⌜ NamesInside (now s) h × PutRoom (now out) at (referenceIn (now s) h r) ⌝ }
-    ensures { λ n. ⌜ Put (now (out .entry)) at (referenceIn (now (s .entry)) h r) (now (out .exit)) n ⌝ }
+// Writes a reference, which is an input's name or a gate's number, and a space.
+fn print_wire(s: &[u8], h: Header, r: usize, out: &mut [u8], at: usize) -> usize
+    requires { ⌜ NamesInside (now s) h × PutRoom (now out) at (referenceIn (now s) h r ++ (space ∷ [])) ⌝ }
+    ensures { λ n. ⌜ Put (now (out .entry)) at (referenceIn (now (s .entry)) h r ++ (space ∷ [])) (now (out .exit)) n ⌝ }
 {
     let inputs = h.inputs;
     if r < inputs {
-        return print_name(s, h, r, out, at);
+        return print_name(s, h, r, b' ', out, at);
     }
-    print_decimal(r - inputs + 1, out, at)
+    print_decimal(r - inputs + 1, b' ', out, at)
 }
 
 // Writes a gate's digits.
@@ -45,37 +45,23 @@ fn print_digits(digits: &[u8], out: &mut [u8], at: usize) -> usize
     p
 }
 
-// Writes a reference and a space.
-fn print_wire(s: &[u8], h: Header, r: usize, out: &mut [u8], at: usize) -> usize
-    requires { ⌜ NamesInside (now s) h × PutRoom (now out) at (referenceIn (now s) h r ++ (space ∷ [])) ⌝ }
-    ensures { λ n. ⌜ Put (now (out .entry)) at (referenceIn (now (s .entry)) h r ++ (space ∷ [])) (now (out .exit)) n ⌝ }
+// Writes the line of a gate with these references and digits.
+fn print_gate(
+    s: &[u8],
+    h: Header,
+    left: usize,
+    right: usize,
+    digits: &[u8],
+    out: &mut [u8],
+    at: usize,
+) -> usize
+    requires { ⌜ NamesInside (now s) h × ((k : ℕ) → k < length (now digits) → getD (now digits) k 0 < 10)
+        × PutRoom (now out) at (printedParts (now s) h left right (now digits)) ⌝ }
+    ensures { λ r. ⌜ Put (now (out .entry)) at (printedParts (now (s .entry)) h left right (now (digits .entry))) (now (out .exit)) r ⌝ }
 {
-    let p = print_reference(s, h, r, out, at);
-    put(b' ', out, p)
-}
-
-// Writes the digits of the gate with k gates before it.
-fn print_gate_table(net: Net, k: usize, out: &mut [u8], at: usize) -> usize
-    requires { ⌜ GatesInside net × (k < net .gates) × PutRoom (now out) at (map digitByte (gateOf net k .digits)) ⌝ }
-    ensures { λ r. ⌜ Put (now (out .entry)) at (map digitByte (gateOf net k .digits)) (now (out .exit)) r ⌝ }
-{
-    let digits = net.digits;
-    let size = net.levels * net.levels;
-    let from = k * size;
-    let end = from + size;
-    print_digits(&digits[from..end], out, at)
-}
-
-// Writes the line of the gate with k gates before it.
-fn print_gate(s: &[u8], h: Header, net: Net, k: usize, out: &mut [u8], at: usize) -> usize
-    requires { ⌜ NamesInside (now s) h × GatesInside net × (k < net .gates) × PutRoom (now out) at (printedGateAt (now s) h net k) ⌝ }
-    ensures { λ r. ⌜ Put (now (out .entry)) at (printedGateAt (now (s .entry)) h net k) (now (out .exit)) r ⌝ }
-{
-    let left = net.left;
-    let right = net.right;
-    let p = print_wire(s, h, wide(left[k]), out, at);
-    let p = print_wire(s, h, wide(right[k]), out, p);
-    let p = print_gate_table(net, k, out, p);
+    let p = print_wire(s, h, left, out, at);
+    let p = print_wire(s, h, right, out, p);
+    let p = print_digits(digits, out, p);
     put(b'\n', out, p)
 }
 
@@ -84,11 +70,22 @@ fn print_gates(s: &[u8], h: Header, net: Net, out: &mut [u8], at: usize) -> usiz
     requires { ⌜ NamesInside (now s) h × GatesInside net × PutRoom (now out) at (printedGates (now s) h net) ⌝ }
     ensures { λ r. ⌜ Put (now (out .entry)) at (printedGates (now (s .entry)) h net) (now (out .exit)) r ⌝ }
 {
-    let gates = net.gates;
+    let digits = net.digits;
     let mut k: usize = 0;
     let mut p: usize = at;
-    while k < gates {
-        p = print_gate(s, h, net, k, out, p);
+    while k < net.gates {
+        let size = net.levels * net.levels;
+        let from = k * size;
+        let end = from + size;
+        p = print_gate(
+            s,
+            h,
+            wide(net.left[k]),
+            wide(net.right[k]),
+            &digits[from..end],
+            out,
+            p,
+        );
         k += 1;
     }
     p

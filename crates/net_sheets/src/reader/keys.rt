@@ -8,6 +8,7 @@ ghost use Rattle.net_sheets.specs.Reader.Keys.{Keyed, NumberKeyed};
 use fields::header::keys::key_of;
 use nets::forms::Header;
 use nets::forms::MOST_WIRES;
+use nets::names::name_of;
 
 // Sets the keys and lengths of a header's names.
 pub fn key_names(
@@ -21,11 +22,8 @@ pub fn key_names(
 {
     let mut i: usize = 0;
     while i < header.inputs {
-        let start = header.starts[i];
-        let len = header.lens[i];
-        let end = start + len as usize;
-        keys[i] = key_of(&s[start..end]);
-        lens[i] = len;
+        keys[i] = key_of(name_of(s, header, i));
+        lens[i] = header.lens[i];
         i += 1;
     }
 }
@@ -40,14 +38,15 @@ pub fn key_number(
     requires { ⌜ (inputs + gates < mostWires) × (gates + 1 < 100) ⌝ }
     ensures { λ _. ⌜ NumberKeyed inputs gates (now (keys .entry)) (now (lens .entry)) (now (keys .exit)) (now (lens .exit)) ⌝ }
 {
+    let at = inputs + gates;
     let number = gates + 1;
     let tens = (number / 10) as u64;
     let ones = (number % 10) as u64;
     if tens == 0 {
-        keys[inputs + gates] = 48 + ones;
-        lens[inputs + gates] = 1;
+        keys[at] = 48 + ones;
+        lens[at] = 1;
     } else {
-        keys[inputs + gates] = (48 + ones) * 256 + (48 + tens);
-        lens[inputs + gates] = 2;
+        keys[at] = (48 + ones) * 256 + (48 + tens);
+        lens[at] = 2;
     }
 }

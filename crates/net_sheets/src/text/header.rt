@@ -19,18 +19,17 @@ pub fn print_pair(head: &[u8], a: usize, b: usize, out: &mut [u8], at: usize) ->
     ensures { λ r. ⌜ Put (now (out .entry)) at (now (head .entry) ++ line (decimal a ∷ decimal b ∷ [])) (now (out .exit)) r ⌝ }
 {
     let p = copy(head, out, at);
-    let p = print_decimal(a, out, p);
-    let p = put(b' ', out, p);
-    let p = print_decimal(b, out, p);
-    put(b'\n', out, p)
+    let p = print_decimal(a, b' ', out, p);
+    print_decimal(b, b'\n', out, p)
 }
 
-// Writes name i.
-pub fn print_name(s: &[u8], h: Header, i: usize, out: &mut [u8], at: usize) -> usize
-    requires { ⌜ NamesInside (now s) h × (i < h .inputs) × PutRoom (now out) at (nameIn (now s) h i) ⌝ }
-    ensures { λ r. ⌜ Put (now (out .entry)) at (nameIn (now (s .entry)) h i) (now (out .exit)) r ⌝ }
+// Writes name i and the byte after it.
+pub fn print_name(s: &[u8], h: Header, i: usize, after: u8, out: &mut [u8], at: usize) -> usize
+    requires { ⌜ NamesInside (now s) h × (i < h .inputs) × PutRoom (now out) at (nameIn (now s) h i ++ (after ∷ [])) ⌝ }
+    ensures { λ r. ⌜ Put (now (out .entry)) at (nameIn (now (s .entry)) h i ++ (after ∷ [])) (now (out .exit)) r ⌝ }
 {
-    copy(name_of(s, h, i), out, at)
+    let p = copy(name_of(s, h, i), out, at);
+    put(after, out, p)
 }
 
 // Writes the first `count` names, each followed by a space.
@@ -41,8 +40,7 @@ pub fn print_names(s: &[u8], h: Header, count: usize, out: &mut [u8], at: usize)
     let mut i: usize = 0;
     let mut p: usize = at;
     while i < count {
-        let e = print_name(s, h, i, out, p);
-        p = put(b' ', out, e);
+        p = print_name(s, h, i, b' ', out, p);
         i += 1;
     }
     p
@@ -55,6 +53,5 @@ pub fn print_names_line(s: &[u8], h: Header, out: &mut [u8], at: usize) -> usize
 {
     let last = h.inputs - 1;
     let p = print_names(s, h, last, out, at);
-    let p = print_name(s, h, last, out, p);
-    put(b'\n', out, p)
+    print_name(s, h, last, b'\n', out, p)
 }

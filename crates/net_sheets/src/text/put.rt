@@ -2,7 +2,6 @@
 ghost use Prim.Native.Nat.{_<_};
 ghost use mathlib.Core.List.{[], _∷_};
 ghost use lib.ListN.{length};
-ghost use Rattle.rules.specs.Text.{digitByte};
 ghost use Rattle.net_sheets.specs.Text.Put.{Put, PutRoom};
 
 // Writes one byte.
@@ -12,14 +11,6 @@ pub fn put(b: u8, out: &mut [u8], at: usize) -> usize
 {
     out[at] = b;
     at + 1
-}
-
-// Writes one digit.
-pub fn put_digit(d: usize, out: &mut [u8], at: usize) -> usize
-    requires { ⌜ (d < 10) × (at < length (now out)) ⌝ }
-    ensures { λ r. ⌜ Put (now (out .entry)) at (digitByte d ∷ []) (now (out .exit)) r ⌝ }
-{
-    put(b'0' + d as u8, out, at)
 }
 
 // Writes all of t.

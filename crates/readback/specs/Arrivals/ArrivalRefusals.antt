@@ -1,10 +1,10 @@
 -- The numbers and places with which an arrival sheet is refused, and the bytes that decide it.
 -- Assumes nothing.
 use Rattle.laws.specs.Prelude.{ℕ, refl, _&&_, List, [], _∷_, leb}
-use Rattle.rules.specs.Lists.{any, same}
-use Rattle.rules.specs.Text.{valueOf, isDecimal}
 use Rattle.rules.specs.Limits.{mostTime}
+use Rattle.rules.specs.Lists.{any, same}
 use Rattle.rules.specs.Sheets.Fields.{strict}
+use Rattle.rules.specs.Text.{valueOf, isDecimal}
 use Rattle.rules.specs.Sheets.ArrivalSheet.{nextName, timeField, arrivalSheet, readArrivals}
 use Rattle.laws.specs.Lists.Distinct.{In}
 use Rattle.readback.specs.Readers.Among.{Among, AmongJudge, Refuses, test-bad, among-word, among-closed, among-answer}

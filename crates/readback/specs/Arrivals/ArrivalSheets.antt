@@ -2,13 +2,13 @@
 -- Assumes nothing.
 use Rattle.laws.specs.Prelude.{ℕ, _≤_, _≡_, sym, refl, _↔_, true, _&&_, and-eq-true-iff, List, [], _∷_, _++_, append-assoc, append-nil, arith, leb, length}
 use Rattle.laws.specs.Prelude.{le-leb, leb-true}
-use Rattle.rules.specs.Lists.{all, same}
-use Rattle.rules.specs.Text.{space, newline, text, decimal, valueOf, isDecimal}
+use Rattle.rules.specs.Calls.Answers.{accepted}
 use Rattle.rules.specs.Limits.{mostTime}
+use Rattle.rules.specs.Lists.{all, same}
 use Rattle.rules.specs.Sheets.Fields.{good, isSeparator}
 use Rattle.rules.specs.Sheets.Printed.{line}
 use Rattle.rules.specs.Sheets.SheetRules.{GoodNames}
-use Rattle.rules.specs.Calls.Answers.{accepted}
+use Rattle.rules.specs.Text.{space, newline, text, decimal, valueOf, isDecimal}
 use Rattle.rules.specs.Sheets.ArrivalSheet.{Arrival, arrivalOf, earliestOf, latestOf, nextName, timeField, arrivalLine, arrivalLines, arrivalSheet}
 use Rattle.rules.specs.Sheets.ArrivalSheet.{readArrivals, printedArrival, printedArrivals, printedArrivalSheet, ArrivalRules, EachArrivalRules}
 use Rattle.rules.specs.Sheets.ArrivalSheet.{ArrivalSheetRules}

@@ -1,16 +1,16 @@
 -- The lines of a sheet as document 01's lister counts them: where line k starts and how long it is. In an accepted net sheet the gate lines
 -- are the lines after the first four, each within the sheet with its line feed, and the sheet ends after the last.
 -- Assumes nothing.
-use Rattle.laws.specs.Prelude.{ℕ, _<_, _≤_, _+_, _-_, suc, zero, _≡_, _∙_, sym, ap, refl, ap₂, subst⁻¹, true, List, [], _∷_, _++_, append-assoc}
-use Rattle.laws.specs.Prelude.{append-nil, arith, eqb, length, getD, take, drop, length-append, length-map, length-take-le, take-at, append-snoc, drop-at}
-use Rattle.laws.specs.Prelude.{drop-drop, split-at, not-true}
-use Rattle.rules.specs.Lists.{all, concatMap}
-use Rattle.rules.specs.Text.{newline}
-use Rattle.rules.specs.Sheets.Sheets.{Gate, Net}
-use Rattle.rules.specs.Sheets.Printed.{printedGate}
-use Rattle.rules.specs.Sheets.SheetRules.{NetRules}
+use Rattle.laws.specs.Prelude.{ℕ, _<_, _≤_, _+_, _-_, suc, zero, _≡_, _∙_, sym, ap, refl, ap₂, subst⁻¹, true, List, [], _∷_, _++_, append-assoc, append-nil}
+use Rattle.laws.specs.Prelude.{arith, eqb, length, getD, take, drop, length-append, length-map, length-take-le, take-at, append-snoc, drop-at, drop-drop}
+use Rattle.laws.specs.Prelude.{split-at, not-true}
 use Rattle.rules.specs.Calls.Answers.{accepted, refused, onward}
+use Rattle.rules.specs.Lists.{all, concatMap}
+use Rattle.rules.specs.Sheets.Printed.{printedGate}
 use Rattle.rules.specs.Sheets.Reading.{readNet}
+use Rattle.rules.specs.Sheets.SheetRules.{NetRules}
+use Rattle.rules.specs.Sheets.Sheets.{Gate, Net}
+use Rattle.rules.specs.Text.{newline}
 use Rattle.rules.specs.Calls.Lister.{Part, lineLength, afterLines, listing}
 use Rattle.laws.specs.Lists.Concat.{concat-append}
 use Rattle.laws.specs.Lists.Places.{map-at}

@@ -3,11 +3,11 @@
 use Rattle.laws.specs.Prelude.{ℕ, _<_, _≤_, _+_, suc, zero, _≡_, _∙_, sym, ap, refl, _↔_, ⊎-elim, _⊎_, inl, inr, false, List, [], _∷_, _++_, map}
 use Rattle.laws.specs.Prelude.{append-assoc, append-nil, arith, eqb, length, length-append, append-snoc}
 use Rattle.rules.specs.Lists.{any, concatMap}
-use Rattle.rules.specs.Text.{space, newline, digitByte}
 use Rattle.rules.specs.Sheets.Fields.{read, Reader, give}
-use Rattle.rules.specs.Sheets.Sheets.{Gate, referenceText, usedBy, gateLine, orEnd, gateLines}
 use Rattle.rules.specs.Sheets.Printed.{line, printedGate}
 use Rattle.rules.specs.Sheets.SheetRules.{GoodNames, GateTable, Tables, RefersBack, Distinct}
+use Rattle.rules.specs.Sheets.Sheets.{Gate, referenceText, usedBy, gateLine, orEnd, gateLines}
+use Rattle.rules.specs.Text.{space, newline, digitByte}
 use Rattle.laws.specs.Lists.Tests.{none-iff}
 use Rattle.laws.specs.Lists.Same.{eqb-comm}
 use Rattle.readback.specs.Readers.Spells.{SpellsBetween, Any, Spells, spells-give, spells-then, spells-as}

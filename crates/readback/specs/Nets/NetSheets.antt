@@ -1,13 +1,13 @@
 -- Net sheets: what the reader of a net sheet spells. It reads to the sheet's end, then checks that earlier gates are used.
 -- Assumes nothing.
 use Rattle.laws.specs.Prelude.{ℕ, _<_, _+_, _-_, _≡_, _∙_, sym, ap, refl, fun-ext, List, [], _∷_, _++_, append-assoc, append-nil, add-zero, arith, eqb}
-use Rattle.laws.specs.Prelude.{length}
+use Rattle.laws.specs.Prelude.{length, read-cases}
 use Rattle.rules.specs.Lists.{all, concatMap}
-use Rattle.rules.specs.Text.{space, newline, text}
 use Rattle.rules.specs.Sheets.Fields.{Read, read, turnedBack, Reader, then, _>>=_, give, isSeparator, field, theWord, closed}
-use Rattle.rules.specs.Sheets.Sheets.{Header, Gate, Net, usedBy, headerLines, gateLines, allUsed, netSheet}
 use Rattle.rules.specs.Sheets.Printed.{line, firstLines, printedGate, printedNet}
 use Rattle.rules.specs.Sheets.SheetRules.{HeaderRules, GateRules, EarlierUsed, NetRules}
+use Rattle.rules.specs.Sheets.Sheets.{Header, Gate, Net, usedBy, headerLines, gateLines, allUsed, netSheet}
+use Rattle.rules.specs.Text.{space, newline, text}
 use Rattle.laws.specs.Nets.UsedGates.{earlier-used, used-earlier}
 use Rattle.laws.specs.Lists.Fresh.{fresh-first}
 use Rattle.laws.specs.Numbers.Sizes.{kept-size}
@@ -87,11 +87,10 @@ judgedLast net = allUsed (net .header .inputs) (net .gates) >>= λ _. give net
 then-last : {A B C : Type 0} (r : Reader A) (k : A → Reader B) (l : B → Reader C) (whole : A → Reader C)
     → ((a : A) (s : List ℕ) (at : ℕ) → whole a s at ≡ then (k a s at) l) → (s : List ℕ) (at : ℕ) → (r >>= whole) s at ≡ then ((r >>= k) s at) l
 unfolding then
-then-last {A} r k l whole each s at = go (r s at)
-  where
-    go : (u : Read A) → then u whole ≡ then (then u k) l
-    go (read a rest place) = each a rest place
-    go (turnedBack number place) = refl
+then-last {A} r k l whole each s at = elim (r s at) as (λ u. then u whole ≡ then (then u k) l) [
+  | read a rest place ↦ each a rest place
+  | turnedBack number place ↦ refl
+]
 
 -- for a given net
 last-given : (net : Net) (s : List ℕ) (at : ℕ) → judgedLast net s at ≡ then (give net s at) judgedLast
@@ -165,12 +164,9 @@ spells-net = record { back = back; only = only }
 
     only : (s : List ℕ) (at : ℕ) (a : Net) (rest : List ℕ) (place : ℕ) → netSheet s at ≡ read a rest place
         → (x : (net : Net) × NetRules net) × (a ≡ x .0) × (s ≡ printedNet (x .0) ++ rest) × Ended rest
-    only s at a rest place e = go (netToEnd s at) refl (sym (net-last s at) ∙ e)
-      where
-        go : (u : Read Net) → netToEnd s at ≡ u → then u judgedLast ≡ read a rest place
-            → (x : (net : Net) × NetRules net) × (a ≡ x .0) × (s ≡ printedNet (x .0) ++ rest) × Ended rest
-        go (read b r p) d e =
-            let ((net, ruled), is, text, end) = spells-to-end .only s at b r p d in
-            let (same, all, used) = last-only b r p a rest place e in
-            ((net, ruled-kept net ruled (rw is at used)), same ∙ is, text ∙ ap (λ t. printedNet net ++ t) (sym all), all ∙ end)
-        go (turnedBack number p) d e = absurd (not-read number p a rest place e)
+    only s at a rest place e = read-cases (netToEnd s at)
+        (λ b r p d.
+        let ((net, ruled), is, text, end) = spells-to-end .only s at b r p d in
+        let (same, all, used) = last-only b r p a rest place (rw d at (sym (net-last s at) ∙ e)) in
+        ((net, ruled-kept net ruled (rw is at used)), same ∙ is, text ∙ ap (λ t. printedNet net ++ t) (sym all), all ∙ end))
+        (λ number p d. absurd (not-read number p a rest place (rw d at (sym (net-last s at) ∙ e))))

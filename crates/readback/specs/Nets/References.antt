@@ -1,12 +1,12 @@
 -- References: what a field of a gate line refers to. Different references are written differently.
 -- Assumes nothing.
 use Rattle.laws.specs.Prelude.{ℕ, _<_, _≤_, _+_, _-_, _≡_, _∙_, sym, ap, refl, true, false, Bool, not, false≢true, List, [], _∷_, arith, eqb, ltb, length}
-use Rattle.laws.specs.Prelude.{getD, not-true, ltb-true, ltb-false}
+use Rattle.laws.specs.Prelude.{getD, not-true, ltb-true, ltb-false, test-cases}
 use Rattle.rules.specs.Lists.{any, all}
-use Rattle.rules.specs.Text.{decimal, isDigit}
 use Rattle.rules.specs.Sheets.Fields.{good}
-use Rattle.rules.specs.Sheets.Sheets.{isName, letterFirst, referenceText, referenceOf, referenceField}
 use Rattle.rules.specs.Sheets.SheetRules.{GoodNames}
+use Rattle.rules.specs.Sheets.Sheets.{isName, letterFirst, referenceText, referenceOf, referenceField}
+use Rattle.rules.specs.Text.{decimal, isDigit}
 use Rattle.laws.specs.Lists.Tests.{all-iff}
 use Rattle.readback.specs.Readers.Fields.{isWord, Judges}
 use Rattle.laws.specs.Numbers.Digits.{digit-iff, decimal-digits}
@@ -22,11 +22,9 @@ pub data Refers (names : List (List ℕ)) (r : ℕ) : Type 0 where
 -- which of the two it is
 pub refers : (names : List (List ℕ)) (r : ℕ) → Refers names r
 unfolding referenceText
-refers names r = go (ltb r (length names)) refl
-  where
-    go : (t : Bool) → ltb r (length names) ≡ t → Refers names r
-    go true e = toInput (ltb-true r (length names) e) (rw (e, referenceText))
-    go false e = toGate (ltb-false r (length names) e) (rw (e, referenceText))
+refers names r = test-cases (ltb r (length names))
+    (λ e. toInput (ltb-true r (length names) e) (rw (e, referenceText)))
+    (λ e. toGate (ltb-false r (length names) e) (rw (e, referenceText)))
 
 -- digits do not start with a letter
 not-letter : (w : List ℕ) → all (isDigit 10) w ≡ true → letterFirst w ≡ true → ⊥
@@ -44,11 +42,10 @@ name-not-decimal w n h e = not-letter (decimal n) (decimal-digits n .0) (ap lett
 module _ (names : List (List ℕ)) (good-names : GoodNames names) where
   -- a reference is a word
   pub reference-word : (r : ℕ) → isWord (referenceText names r) ≡ true
-  reference-word r = go (refers names r)
-    where
-      go : Refers names r → isWord (referenceText names r) ≡ true
-      go (toInput h e) = rw e (name-word (getD names r []) (good-name names good-names r h))
-      go (toGate h e) = rw e (decimal-word (r + 1 - length names))
+  reference-word r = elim (refers names r) [
+    | toInput h e ↦ rw e (name-word (getD names r []) (good-name names good-names r h))
+    | toGate h e ↦ rw e (decimal-word (r + 1 - length names))
+  ]
 
   -- the same for the name of an input
   input-not-gate : (q r : ℕ) → q < length names → getD names q [] ≡ decimal (r + 1 - length names) → ⊥

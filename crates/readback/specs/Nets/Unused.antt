@@ -2,12 +2,12 @@
 -- exactly if it follows every other rule and some earlier gate is never used; the place is its length.
 -- Assumes nothing.
 use Rattle.laws.specs.Prelude.{ℕ, _≡_, _∙_, sym, ap, refl, subst, _↔_, true, false, Bool, List, [], _∷_, _++_, append-nil, arith, length}
+use Rattle.rules.specs.Calls.Answers.{refused}
 use Rattle.rules.specs.Lists.{any}
 use Rattle.rules.specs.Sheets.Fields.{Read, read, turnedBack, then, give}
-use Rattle.rules.specs.Sheets.Sheets.{Net, earlierUsed, allUsed}
 use Rattle.rules.specs.Sheets.Printed.{printedNet}
-use Rattle.rules.specs.Calls.Answers.{refused}
 use Rattle.rules.specs.Sheets.Reading.{answered, readNet}
+use Rattle.rules.specs.Sheets.Sheets.{Net, earlierUsed, allUsed}
 use Rattle.readback.specs.Readers.Spells.{not-read}
 use Rattle.readback.specs.Readers.Ends.{used-turned}
 use Rattle.readback.specs.Nets.NetSheets.{RuledNet, netToEnd, judgedLast, net-last, spells-to-end}

@@ -1,14 +1,13 @@
 -- The numbers with which a reader refuses, for any list of numbers that contains 1: they are those of its fields' judges.
 -- Assumes nothing.
-use Rattle.laws.specs.Prelude.{ℕ, _+_, suc, _≡_, sym, refl, subst, true, false, Bool, List, [], _∷_, arith, eqb}
-use Prim.Native.String.{String}
-use Rattle.rules.specs.Lists.{same}
-use Rattle.rules.specs.Text.{space, text}
-use Rattle.rules.specs.Sheets.Fields.{Read, read, turnedBack, Reader, then, _>>=_, give, Judged, good, bad, Judge, judged, run, past, separator}
-use Rattle.rules.specs.Sheets.Fields.{pastSpaces, spacesIn, spaces, strict, loose, Layout, looseSeparator, separatorIn, afterFieldIn, fieldOfIn}
-use Rattle.rules.specs.Sheets.Fields.{field, fieldIn, theWord, closed}
+use Rattle.laws.specs.Prelude.{ℕ, _+_, suc, _≡_, sym, refl, subst, true, false, Bool, List, [], _∷_, arith, eqb, read-cases, judged-cases}
 use Rattle.rules.specs.Calls.Answers.{Answer, refused}
+use Rattle.rules.specs.Lists.{same}
+use Rattle.rules.specs.Sheets.Fields.{Read, read, turnedBack, Reader, then, _>>=_, give, Judged, bad, Judge, judged, run, past, separator, pastSpaces}
+use Rattle.rules.specs.Sheets.Fields.{spacesIn, spaces, strict, loose, Layout, looseSeparator, separatorIn, afterFieldIn, fieldOfIn, fieldIn, theWord, closed}
 use Rattle.rules.specs.Sheets.Reading.{answered}
+use Rattle.rules.specs.Text.{space, text}
+use Prim.Native.String.{String}
 use Rattle.laws.specs.Lists.Distinct.{In}
 use Rattle.readback.specs.Readers.Spells.{not-read}
 use Rattle.readback.specs.Readers.Fields.{not-good}
@@ -40,11 +39,9 @@ module _ (numbers : List ℕ) (one : In 1 numbers) where
 
   pub among-then : {A B : Type 0} (r : Reader A) (next : A → Reader B) → Among numbers r → ((a : A) → Among numbers (next a)) → Among numbers (r >>= next)
   unfolding then
-  among-then {A} r next h i s at k place e = go (r s at) refl e
-    where
-      go : (u : Read A) → r s at ≡ u → then u next ≡ turnedBack k place → In k numbers
-      go (read a rest p) d e = i a rest p k place e
-      go (turnedBack number p) d e = named-turned number p k place (h s at number p d) e
+  among-then {A} r next h i s at k place e = read-cases (r s at)
+      (λ a rest p d. i a rest p k place (rw d at e))
+      (λ number p d. named-turned number p k place (h s at number p d) (rw d at e))
 
   among-separator : {A : Type 0} (a : A) (due : ℕ) (s : List ℕ) (at k place : ℕ) → separator a due s at ≡ turnedBack k place → In k numbers
   unfolding separator
@@ -77,16 +74,11 @@ module _ (numbers : List ℕ) (one : In 1 numbers) where
   unfolding fieldIn fieldOfIn afterFieldIn
   among-field-in layout {A} judge due h s at k place e = go (run s) e
     where
-      judged-field : (w : List ℕ) (u : Judged A) → judge w ≡ u → (end : ℕ) → afterFieldIn layout u due (past s) at end ≡ turnedBack k place → In k numbers
-      judged-field w (good a) d end e = among-separator-in layout a due (past s) end k place e
-      judged-field w (bad number) d end e = named-turned number at k place (h w number d) e
-
       go : (w : List ℕ) → fieldOfIn layout judge due w (past s) at ≡ turnedBack k place → In k numbers
       go [] e = named-turned 1 at k place one e
-      go (b ∷ w) e = judged-field (b ∷ w) (judge (b ∷ w)) refl _ e
-
-  abbrev pub among-field : {A : Type 0} (judge : Judge A) (due : ℕ) → AmongJudge numbers judge → Among numbers (field judge due)
-  among-field judge due h = among-field-in strict judge due h
+      go (b ∷ w) e = judged-cases (judge (b ∷ w))
+          (λ a d. among-separator-in layout a due (past s) _ k place (rw d at e))
+          (λ number d. named-turned number at k place (h (b ∷ w) number d) (rw d at e))
 
   -- ---- a fixed word, and the end of a sheet
 

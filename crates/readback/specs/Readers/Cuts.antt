@@ -3,9 +3,9 @@
 -- that no field which might still become good reaches its end. Stated once for readers; the laws here combine such readers.
 -- Assumes nothing.
 use Rattle.laws.specs.Prelude.{ℕ, _<_, _≤_, _+_, suc, _≡_, _∙_, sym, ap, refl, true, false, Bool, List, [], _∷_, _++_, append-nil, le-trans, lt-of-not-le}
-use Rattle.laws.specs.Prelude.{arith, eqb, length, length-append}
-use Rattle.rules.specs.Sheets.Fields.{Read, read, turnedBack, Reader, then, _>>=_, give, Judged, good, bad, Judge, run, past, separator, afterField}
-use Rattle.rules.specs.Sheets.Fields.{afterFieldIn, fieldOf, fieldOfIn, field, fieldIn, closed}
+use Rattle.laws.specs.Prelude.{arith, eqb, length, length-append, read-cases, judged-cases}
+use Rattle.rules.specs.Sheets.Fields.{Read, read, turnedBack, Reader, then, _>>=_, give, good, bad, Judge, run, past, separator, afterFieldIn, fieldOf}
+use Rattle.rules.specs.Sheets.Fields.{fieldOfIn, field, fieldIn, closed}
 use Rattle.laws.specs.Lists.Runs.{run-past, run-more, run-through}
 use Rattle.readback.specs.Readers.Spells.{not-read}
 use Rattle.readback.specs.Readers.Fronts.{separator-turned, field-read}
@@ -62,14 +62,12 @@ module _ {A : Type 0} (a : A) where
 module _ {A B : Type 0} {r : Reader A} (next : A → Reader B) where
   pub goes-then : Goes r → ((a : A) → Goes (next a)) → Goes (r >>= next)
   unfolding then
-  goes-then first nexts s at b rest place e = go (r s at) refl e
+  goes-then first nexts s at b rest place e = read-cases (r s at)
+      (λ a middle p d. both a middle p (first s at a middle p d) (nexts a middle p b rest place (rw d at e)))
+      (λ number p d. absurd (not-read number p b rest place (rw d at e)))
     where
       both : (a : A) (middle : List ℕ) (p : ℕ) → Went r s at a middle p → Went (next a) middle p b rest place → Went (r >>= next) s at b rest place
       both a middle p f g = record { ends = omega (arith, f .ends, g .ends); more = λ t. rw (f .more t) (g .more t) }
-
-      go : (u : Read A) → r s at ≡ u → then u next ≡ read b rest place → Went (r >>= next) s at b rest place
-      go (read a middle p) d e = both a middle p (first s at a middle p d) (nexts a middle p b rest place e)
-      go (turnedBack number p) d e = absurd (not-read number p b rest place e)
 
   -- The second reader is firm from `c` bytes on, and the first leaves it that many if the text has `b` or more.
   pub firm-then : {late : ℕ} (b c : ℕ) → Goes r → Firm late b r
@@ -99,22 +97,18 @@ module _ {A B : Type 0} {r : Reader A} (next : A → Reader B) where
   pub takes-then : (w v : ℕ) → Takes w r → ((s : List ℕ) (at : ℕ) (a : A) (rest : List ℕ) (place : ℕ) → r s at ≡ read a rest place → Takes v (next a))
       → Takes (w + v) (r >>= next)
   unfolding then
-  takes-then w v first nexts s at b rest place e = go (r s at) refl e
-    where
-      go : (u : Read A) → r s at ≡ u → then u next ≡ read b rest place → length s ≤ w + v + length rest
-      go (read a middle p) d e = omega (arith, first s at a middle p d, nexts s at a middle p d middle p b rest place e)
-      go (turnedBack number p) d e = absurd (not-read number p b rest place e)
+  takes-then w v first nexts s at b rest place e = read-cases (r s at)
+      (λ a middle p d. omega (arith, first s at a middle p d, nexts s at a middle p d middle p b rest place (rw d at e)))
+      (λ number p d. absurd (not-read number p b rest place (rw d at e)))
 
   pub shuts-then : {Whole : B → Type 0} → Goes r → ((a : A) → Shuts Whole (next a)) → Shuts Whole (r >>= next)
   unfolding then
-  shuts-then first nexts s at b rest place e is = go (r s at) refl e
+  shuts-then first nexts s at b rest place e is = read-cases (r s at)
+      (λ a middle p d. both a middle p (first s at a middle p d) (nexts a middle p b rest place (rw d at e) is))
+      (λ number p d. absurd (not-read number p b rest place (rw d at e)))
     where
       both : (a : A) (middle : List ℕ) (p : ℕ) → Went r s at a middle p → Shut (next a) middle p rest → Shut (r >>= next) s at rest
       both a middle p f g = record { none = g .none; after = λ c t. rw (f .more (c ∷ t)) (g .after c t ∙ ap (turnedBack 1) (f .ends)) }
-
-      go : (u : Read A) → r s at ≡ u → then u next ≡ read b rest place → Shut (r >>= next) s at rest
-      go (read a middle p) d e = both a middle p (first s at a middle p d) (nexts a middle p b rest place e is)
-      go (turnedBack number p) d e = absurd (not-read number p b rest place e)
 
 -- a larger bound on the bytes read also holds
 pub takes-more : {A : Type 0} {r : Reader A} (w v : ℕ) → w ≤ v → Takes w r → Takes v r
@@ -122,12 +116,11 @@ takes-more w v h takes s at a rest place e = omega (arith, takes s at a rest pla
 
 -- firm from a larger number of bytes on, too
 pub firm-more : {A : Type 0} {r : Reader A} {late : ℕ} (b c : ℕ) → b ≤ c → Firm late b r → Firm late c r
-firm-more {A} {r} {late} b c h firm s at number place e = go (firm s at number place e)
-  where
-    go : Stopped late r b s at number place → Stopped late r c s at number place
-    go (at-end one end) = at-end one end
-    go (late-end is short end) = late-end is (omega arith) end
-    go (before within stays) = before within (λ long. stays (le-trans h long))
+firm-more {A} {r} {late} b c h firm s at number place e = elim (firm s at number place e) [
+  | at-end one end ↦ at-end one end
+  | late-end is short end ↦ late-end is (omega arith) end
+  | before within stays ↦ before within (λ long. stays (le-trans h long))
+]
 
 -- ---- a field
 
@@ -142,14 +135,12 @@ pub record Narrow {A : Type 0} (l : ℕ) (judge : Judge A) : Type 0 where
   pub one : (w : List ℕ) (k : ℕ) → judge w ≡ bad k → l < length w → k ≡ number
 
 pub narrow-stays : {A : Type 0} {judge : Judge A} (l : ℕ) → Narrow l judge → Stays (suc l) judge
-narrow-stays {A} {judge} l narrow w v k some long e = go (judge (w ++ v)) refl
+narrow-stays {A} {judge} l narrow w v k some long e = judged-cases (judge (w ++ v))
+    (λ a d. absurd (omega (arith, longer, narrow .short (w ++ v) a d)))
+    (λ j d. d ∙ ap bad (narrow .one (w ++ v) j d longer ∙ sym (narrow .one w k e (omega arith))))
   where
     longer : l < length (w ++ v)
     longer = omega (arith, length-append w v)
-
-    go : (u : Judged A) → judge (w ++ v) ≡ u → judge (w ++ v) ≡ bad k
-    go (good a) d = absurd (omega (arith, longer, narrow .short (w ++ v) a d))
-    go (bad j) d = d ∙ ap bad (narrow .one (w ++ v) j d longer ∙ sym (narrow .one w k e (omega arith)))
 
 -- the separator that is due was there
 separator-value : {A : Type 0} (a : A) (due : ℕ) (s : List ℕ) (end : ℕ) (b : A) (rest : List ℕ) (place : ℕ) → separator a due s end ≡ read b rest place → a ≡ b
@@ -176,13 +167,11 @@ module _ {A : Type 0} (judge : Judge A) (due : ℕ) where
   unfolding fieldIn fieldOfIn afterFieldIn
   field-good s at a rest place e = go (run s) e
     where
-      verdict : (w : List ℕ) (u : Judged A) → judge w ≡ u → (end : ℕ) → afterField u due (past s) at end ≡ read a rest place → judge w ≡ good a
-      verdict w (good c) d end e = d ∙ ap good (separator-value c due (past s) end a rest place e)
-      verdict w (bad number) d end e = absurd (not-read number at a rest place e)
-
       go : (w : List ℕ) → fieldOf judge due w (past s) at ≡ read a rest place → judge w ≡ good a
       go [] e = absurd (not-read 1 at a rest place e)
-      go (b ∷ w) e = verdict (b ∷ w) (judge (b ∷ w)) refl _ e
+      go (b ∷ w) e = judged-cases (judge (b ∷ w))
+          (λ c d. d ∙ ap good (separator-value c due (past s) _ a rest place (rw d at e)))
+          (λ number d. absurd (not-read number at a rest place (rw d at e)))
 
   pub takes-field : (l : ℕ) → ((w : List ℕ) (a : A) → judge w ≡ good a → length w ≤ l) → Takes (suc l) (field judge due)
   unfolding fieldIn
@@ -232,15 +221,12 @@ module _ {A : Type 0} (judge : Judge A) (due : ℕ) where
           let (there, same) = separator-turned a due (x ∷ rest) (at + suc (length w)) number place e in
           alone x rest f (omega (arith, there, ap length d, ap length f, parts)) (λ q. rw (d, j) (same (x ∷ q) refl))
 
-      verdict : (c : ℕ) (w : List ℕ) → run s ≡ c ∷ w → (u : Judged A) → judge (c ∷ w) ≡ u → (p : List ℕ) → past s ≡ p
-          → afterField u due p at (at + suc (length w)) ≡ turnedBack number place → Stopped late (field judge due) b s at number place
-      verdict c w d (bad k) j p f e = refused c w d k j e p f
-      verdict c w d (good a) j p f e = after c w d a j p f e
-
       go : (w : List ℕ) → run s ≡ w → (p : List ℕ) → past s ≡ p → fieldOf judge due w p at ≡ turnedBack number place
           → Stopped late (field judge due) b s at number place
       go [] d p f e = none d p f e
-      go (c ∷ w) d p f e = verdict c w d (judge (c ∷ w)) refl p f e
+      go (c ∷ w) d p f e = judged-cases (judge (c ∷ w))
+          (λ a j. after c w d a j p f (rw j at e))
+          (λ k j. refused c w d k j (rw j at e) p f)
 
 -- a narrow field, followed by a reader that is firm from `b` bytes on, or that takes at most that many
 module _ {A B : Type 0} (judge : Judge A) (due l : ℕ) (narrow : Narrow l judge) (b : ℕ) (next : A → Reader B) where

@@ -2,8 +2,8 @@
 -- Assumes nothing.
 use Rattle.laws.specs.Prelude.{ℕ, _<_, _≤_, _≡_, _∙_, sym, ap, refl, true, Bool, List, [], _∷_, arith, length, ne-eqb}
 use Rattle.rules.specs.Lists.{all}
-use Rattle.rules.specs.Text.{space, newline, isDigit, decimal, valueOf}
 use Rattle.rules.specs.Sheets.Fields.{isSeparator}
+use Rattle.rules.specs.Text.{space, newline, isDigit, decimal, valueOf}
 use Rattle.laws.specs.Numbers.Digits.{digit-iff, decimal-digits, decimal-value}
 use Rattle.laws.specs.Lists.Tests.{all-weaker}
 use Rattle.readback.specs.Readers.Fields.{plain, isWord}

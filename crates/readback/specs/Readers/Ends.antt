@@ -1,8 +1,8 @@
 -- Where a net sheet may end: after any gate line (`orEnd`), if every earlier gate has been used (`allUsed`). For these two readers: what they spell,
 -- which bytes decide, and the numbers with which they refuse.
 -- Assumes nothing.
-use Rattle.laws.specs.Prelude.{ℕ, _<_, _≡_, _∙_, sym, ap, refl, ⊎-elim, _⊎_, inl, inr, true, false, Bool, List, [], _∷_, _++_, add-zero, arith, length}
-use Rattle.laws.specs.Prelude.{take, length-append}
+use Rattle.laws.specs.Prelude.{ℕ, _<_, _≡_, _∙_, sym, ap, refl, ⊎-elim, _⊎_, inl, inr, true, false, Bool, List, [], _∷_, _++_, add-zero, arith, length, take}
+use Rattle.laws.specs.Prelude.{length-append}
 use Rattle.rules.specs.Sheets.Fields.{Read, read, turnedBack, Reader}
 use Rattle.rules.specs.Sheets.Sheets.{Gate, orEnd, earlierUsed, allUsed}
 use Rattle.laws.specs.Lists.Distinct.{In}

@@ -1,12 +1,12 @@
 -- One field of a sheet: the words that a judge accepts, each followed by the separator that is due, in either layout.
 -- Assumes nothing.
-use Rattle.laws.specs.Prelude.{ℕ, _+_, suc, _≡_, _∙_, sym, ap, refl, ap₂, true, false, Bool, not, false≢true, List, [], _∷_, _++_, append-assoc, arith}
-use Rattle.laws.specs.Prelude.{eqb, length, eq-eqb, eqb-true, not-true}
-use Prim.Native.String.{String}
+use Rattle.laws.specs.Prelude.{ℕ, _+_, suc, _≡_, _∙_, sym, ap, refl, ap₂, true, false, Bool, not, false≢true, List, [], _∷_, _++_, append-assoc, arith, eqb}
+use Rattle.laws.specs.Prelude.{length, eq-eqb, eqb-true, not-true, judged-cases}
 use Rattle.rules.specs.Lists.{all, same}
+use Rattle.rules.specs.Sheets.Fields.{Read, read, turnedBack, then, _>>=_, give, Judged, good, bad, Judge, judged, isSeparator, run, past, separator, strict}
+use Rattle.rules.specs.Sheets.Fields.{Layout, separatorIn, afterFieldIn, fieldOfIn, field, fieldIn, theWord, closed}
 use Rattle.rules.specs.Text.{space, newline, text}
-use Rattle.rules.specs.Sheets.Fields.{Read, read, turnedBack, then, _>>=_, give, Judged, good, bad, Judge, judged, isSeparator, run, past, separator}
-use Rattle.rules.specs.Sheets.Fields.{strict, Layout, separatorIn, afterFieldIn, fieldOfIn, field, fieldIn, theWord, closed}
+use Prim.Native.String.{String}
 use Rattle.laws.specs.Lists.Tests.{all-iff}
 use Rattle.laws.specs.Lists.Same.{same-refl, same-true}
 use Rattle.laws.specs.Lists.Runs.{run-past}
@@ -96,14 +96,11 @@ module _ (layout : Layout) (due : ℕ) {A : Type 0} {Before After : List ℕ →
       → fieldOfIn layout judge due w s at ≡ read a rest place → (c : C) × (judge w ≡ good a) × (s ≡ gap c ++ rest) × After rest
   unfolding fieldOfIn afterFieldIn
   field-read judge [] s at a rest place e = absurd (not-read 1 at a rest place e)
-  field-read judge (b ∷ w) s at a rest place e = go (judge (b ∷ w)) refl e
-    where
-      go : (j : Judged A) → judge (b ∷ w) ≡ j → afterFieldIn layout j due s at (at + suc (length w)) ≡ read a rest place
-          → (c : C) × (judge (b ∷ w) ≡ good a) × (s ≡ gap c ++ rest) × After rest
-      go (good x) d e =
-          let (c, i, j, h) = parts x .only s (at + suc (length w)) a rest place e in
-          (c, d ∙ ap good (sym i), j, h)
-      go (bad number) d e = absurd (not-read number at a rest place e)
+  field-read judge (b ∷ w) s at a rest place e = judged-cases (judge (b ∷ w))
+      (λ x d.
+      let (c, i, j, h) = parts x .only s (at + suc (length w)) a rest place (rw d at e) in
+      (c, d ∙ ap good (sym i), j, h))
+      (λ number d. absurd (not-read number at a rest place (rw d at e)))
 
   -- a word that is judged good is read if its separator follows
   field-of-word : (judge : Judge A) (w : List ℕ) (a : A) (c : C) (rest : List ℕ) (at : ℕ)

@@ -4,7 +4,7 @@
 -- Assumes nothing.
 use Rattle.laws.specs.Prelude.{ℕ, _≤_, _+_, suc, _≡_, _∙_, sym, ap, refl, ap₂, true, false, Bool, List, [], _∷_, _++_, append-assoc, zero-add, add-zero}
 use Rattle.laws.specs.Prelude.{suc-add, add-suc, add-one, arith, eqb, length, take, drop, length-append, append-snoc, drop-at, take-append-add, eq-eqb}
-use Rattle.laws.specs.Prelude.{eqb-true}
+use Rattle.laws.specs.Prelude.{eqb-true, test-cases, read-cases, judged-cases}
 use Rattle.rules.specs.Sheets.Fields.{Read, read, turnedBack, Reader, then, _>>=_, give, Judged, good, bad, Judge, isSeparator, run, past, separator}
 use Rattle.rules.specs.Sheets.Fields.{afterField, afterFieldIn, fieldOf, fieldOfIn, field, fieldIn, closed}
 use Rattle.laws.specs.Lists.Runs.{fieldEnd, at-separator, at-plain, run-past}
@@ -35,35 +35,31 @@ behind-alike (b ∷ w) t s h = refl
 run-behind : (s t : List ℕ) → StartAlike t (past s) → (run (run s ++ t) ≡ run s) × (past (run s ++ t) ≡ t)
 unfolding run past
 run-behind [] t h = rw (none-alike t h) (refl, refl)
-run-behind (b ∷ s) t h = go (isSeparator b) refl h (run-behind s t)
+run-behind (b ∷ s) t h = test-cases (isSeparator b)
+    (λ e. rw (at-separator b s e .0) (parted t e (rw (at-separator b s e .1) at h)))
+    (λ e.
+    let (i, j) = run-behind s t (rw (at-plain b s e .1) at h) in
+    rw (at-plain b s e .0, at-plain b (run s ++ t) e .0, at-plain b (run s ++ t) e .1) (ap (λ w. b ∷ w) i, j))
   where
     parted : (t : List ℕ) → isSeparator b ≡ true → StartAlike t (b ∷ s) → (run t ≡ []) × (past t ≡ t)
     parted [] e h = (refl, refl)
     parted (c ∷ t) e h = at-separator c t (ap isSeparator (let z : c ≡ b = cc in z) ∙ e)
-
-    go : (u : Bool) → isSeparator b ≡ u → StartAlike t (past (b ∷ s)) → (StartAlike t (past s) → (run (run s ++ t) ≡ run s) × (past (run s ++ t) ≡ t))
-        → (run (run (b ∷ s) ++ t) ≡ run (b ∷ s)) × (past (run (b ∷ s) ++ t) ≡ t)
-    go true e h r = rw (at-separator b s e .0) (parted t e (rw (at-separator b s e .1) at h))
-    go false e h r =
-        let (i, j) = r (rw (at-plain b s e .1) at h) in
-        rw (at-plain b s e .0, at-plain b (run s ++ t) e .0, at-plain b (run s ++ t) e .1) (ap (λ w. b ∷ w) i, j)
 
 -- the same bytes up to the end of the field in front, and the same byte after it, or the end there
 take-field : (s t : List ℕ) → take (suc (length (run s))) t ≡ take (suc (length (run s))) s → FieldAlike t s
 unfolding run
 take-field [] t h = rw (none-alike t h) (record { same-field = refl; same-start = refl })
 take-field (b ∷ s) [] h = absurd (let z : _≡_ {A = ℕ} 0 1 = cc in omega arith)
-take-field (b ∷ s) (c ∷ t) h = record { same-field = go (isSeparator b) refl h (take-field s t); same-start = ap (λ d. d ∷ []) one }
-  where
-    one : c ≡ b
-    one = cc
-
-    go : (u : Bool) → isSeparator b ≡ u → take (suc (length (run (b ∷ s)))) (c ∷ t) ≡ take (suc (length (run (b ∷ s)))) (b ∷ s)
-        → (take (suc (length (run s))) t ≡ take (suc (length (run s))) s → FieldAlike t s) → run (c ∷ t) ≡ run (b ∷ s)
-    go true e h r = rw one (at-separator b t e .0 ∙ sym (at-separator b s e .0))
-    go false e h r =
-        let later : take (suc (length (run s))) t ≡ take (suc (length (run s))) s = let z = rw (at-plain b s e .0) at h in cc in
-        rw one (at-plain b t e .0 ∙ ap (λ w. b ∷ w) (r later .same-field) ∙ sym (at-plain b s e .0))
+take-field (b ∷ s) (c ∷ t) h =
+    let one : c ≡ b = cc in
+    record {
+      same-field = test-cases (isSeparator b)
+          (λ e. rw one (at-separator b t e .0 ∙ sym (at-separator b s e .0)))
+          (λ e.
+          let later : take (suc (length (run s))) t ≡ take (suc (length (run s))) s = let z = rw (at-plain b s e .0) at h in cc in
+          rw one (at-plain b t e .0 ∙ ap (λ w. b ∷ w) (take-field s t later .same-field) ∙ sym (at-plain b s e .0)));
+      same-start = ap (λ d. d ∷ []) one;
+    }
 
 -- ---- readers
 
@@ -105,7 +101,9 @@ front-give a = record {
 module _ {A B : Type 0} {r : Reader A} (next : A → Reader B) (first : FromFront r) (then-first : (a : A) → FromFront (next a)) where
   then-reads : (s : List ℕ) (at : ℕ) (b : B) (rest : List ℕ) (place : ℕ) → (r >>= next) s at ≡ read b rest place → ReadFront (r >>= next) s at b rest place
   unfolding then
-  then-reads s at b rest place e = go (r s at) refl e
+  then-reads s at b rest place e = read-cases (r s at)
+      (λ a middle p d. both a middle p (first .reads s at a middle p d) (then-first a .reads middle p b rest place (rw d at e)))
+      (λ number p d. absurd (not-read number p b rest place (rw d at e)))
     where
       both : (a : A) (middle : List ℕ) (p : ℕ) → ReadFront r s at a middle p → ReadFront (next a) middle p b rest place
           → ReadFront (r >>= next) s at b rest place
@@ -118,32 +116,26 @@ module _ {A B : Type 0} {r : Reader A} (next : A → Reader B) (first : FromFron
             rw (append-assoc (f .bytes) (g .bytes) t, f .alike (g .bytes ++ t) i) (g .alike t h);
       }
 
-      go : (u : Read A) → r s at ≡ u → then u next ≡ read b rest place → ReadFront (r >>= next) s at b rest place
-      go (read a middle p) d e = both a middle p (first .reads s at a middle p d) (then-first a .reads middle p b rest place e)
-      go (turnedBack number p) d e = absurd (not-read number p b rest place e)
-
   then-turns : (s : List ℕ) (at number place : ℕ) → (r >>= next) s at ≡ turnedBack number place → TurnedFront (r >>= next) s at number place
   unfolding then
   then-turns s at number place e = go (r s at) refl e
     where
-      second : (a : A) (middle : List ℕ) (p : ℕ) → ReadFront r s at a middle p → TurnedFront (next a) middle p number place
-          → TurnedFront (r >>= next) s at number place
-      second a middle p f g = record {
-        before = f .bytes ++ g .before;
-        rest = g .rest;
-        whole = f .whole ∙ ap (λ t. f .bytes ++ t) (g .whole) ∙ sym (append-assoc (f .bytes) (g .before) (g .rest));
-        stands = omega (arith, f .stands, g .stands, length-append (f .bytes) (g .before));
-        alike = λ t h.
-            let i : StartAlike (g .before ++ t) middle = behind-alike (g .before) t (g .rest) (h .same-start) ∙ sym (ap (take 1) (g .whole)) in
-            rw (append-assoc (f .bytes) (g .before) t, f .alike (g .before ++ t) i) (g .alike t h);
-      }
-
-      at-once : TurnedFront r s at number place → TurnedFront (r >>= next) s at number place
-      at-once f = record { before = f .before; rest = f .rest; whole = f .whole; stands = f .stands; alike = λ t h. rw (f .alike t h) refl }
-
       go : (u : Read A) → r s at ≡ u → then u next ≡ turnedBack number place → TurnedFront (r >>= next) s at number place
-      go (read a middle p) d e = second a middle p (first .reads s at a middle p d) (then-first a .turns middle p number place e)
-      go (turnedBack k p) d e = at-once (first .turns s at number place (d ∙ let z : _≡_ {A = Read A} (turnedBack k p) (turnedBack number place) = cc in z))
+      go (read a middle p) d e =
+          let f = first .reads s at a middle p d in
+          let g = then-first a .turns middle p number place e in
+          record {
+            before = f .bytes ++ g .before;
+            rest = g .rest;
+            whole = f .whole ∙ ap (λ t. f .bytes ++ t) (g .whole) ∙ sym (append-assoc (f .bytes) (g .before) (g .rest));
+            stands = omega (arith, f .stands, g .stands, length-append (f .bytes) (g .before));
+            alike = λ t h.
+                let i : StartAlike (g .before ++ t) middle = behind-alike (g .before) t (g .rest) (h .same-start) ∙ sym (ap (take 1) (g .whole)) in
+                rw (append-assoc (f .bytes) (g .before) t, f .alike (g .before ++ t) i) (g .alike t h);
+          }
+      go (turnedBack k p) d e =
+          let f = first .turns s at number place (d ∙ let z : _≡_ {A = Read A} (turnedBack k p) (turnedBack number place) = cc in z) in
+          record { before = f .before; rest = f .rest; whole = f .whole; stands = f .stands; alike = λ t h. rw (f .alike t h) refl }
 
   pub front-then : FromFront (r >>= next)
   front-then = record { reads = then-reads; turns = then-turns }
@@ -234,17 +226,13 @@ module _ {A : Type 0} (judge : Judge A) (due : ℕ) where
             rw (l, m) (f t i);
       }
 
-      verdict : (b : ℕ) (w : List ℕ) → run s ≡ b ∷ w → (u : Judged A) → judge (b ∷ w) ≡ u
-          → afterField u due (past s) at (at + suc (length w)) ≡ turnedBack number place
-          → TurnedFront (field judge due) s at number place
-      verdict b w d (bad k) j e = here (cc) (λ q. rw (d, j) e)
-      verdict b w d (good a) j e =
-          let (p, f) = separator-turned a due (past s) (at + suc (length w)) number place e in
-          after (p ∙ ap (λ v. at + length v) (sym d)) (λ q h. rw (d, j) (f q h))
-
       go : (w : List ℕ) → run s ≡ w → fieldOf judge due w (past s) at ≡ turnedBack number place → TurnedFront (field judge due) s at number place
       go [] d e = here (cc) (λ q. rw d e)
-      go (b ∷ w) d e = verdict b w d (judge (b ∷ w)) refl e
+      go (b ∷ w) d e = judged-cases (judge (b ∷ w))
+          (λ a j.
+          let (p, f) = separator-turned a due (past s) (at + suc (length w)) number place (rw j at e) in
+          after (p ∙ ap (λ v. at + length v) (sym d)) (λ q h. rw (d, j) (f q h)))
+          (λ k j. here (cc) (λ q. rw (d, j) (rw j at e)))
 
   pub front-field : FromFront (field judge due)
   front-field = record { reads = reads-field; turns = turns-field }

@@ -1,16 +1,17 @@
 -- The judges of single fields, each with the words that it accepts: levels, inputs, names, a gate's digits, a row's levels and its ink.
 -- Assumes nothing.
 use Rattle.laws.specs.Prelude.{ℕ, _<_, _≤_, _+_, _-_, _*_, _≡_, _∙_, sym, ap, refl, ap₂, true, false, Bool, _&&_, not, and-eq-true-iff, _||_, false≢true}
-use Rattle.laws.specs.Prelude.{List, [], _∷_, map, mul-pos, ℕ-discrete, arith, eqb, leb, length, getD, length-map, List·getD-map, eq-eqb, eqb-true}
-use Rattle.laws.specs.Prelude.{not-true, leb-true}
-use mathlib.Core.Option.{Option, none, some}
-use Rattle.rules.specs.Lists.{range, all, any, same, find}
-use Rattle.rules.specs.Text.{space, newline, text, digitByte, openByte, isDigit, decimal}
+use Rattle.laws.specs.Prelude.{List, [], _∷_, map, mul-pos, ℕ-discrete, arith, eqb, leb, length, getD, length-map, List·getD-map, eq-eqb, eqb-true, not-true}
+use Rattle.laws.specs.Prelude.{leb-true, by-cases}
 use Rattle.rules.specs.Limits.{levelsFit, inputsFit, cellsFit, fewestInputs, mostInputs}
+use Rattle.rules.specs.Lists.{range, all, any, same, find}
 use Rattle.rules.specs.Sheets.Fields.{Judged, good, bad, Judge, judged, isSeparator}
-use Rattle.rules.specs.Sheets.LooseSheet.{anyLevel}
-use Rattle.rules.specs.Sheets.Sheets.{levelsField, inputsOf, inputsField, isLetter, letterFirst, isName, nameField, digitsField, levelField, inkField, inkByte}
 use Rattle.rules.specs.Sheets.SheetRules.{GateTable}
+use Rattle.rules.specs.Sheets.Sheets.{levelsField, inputsOf, inputsField, isLetter, letterFirst, isName, nameField, digitsField, levelField, inkField}
+use Rattle.rules.specs.Sheets.Sheets.{inkByte}
+use Rattle.rules.specs.Text.{space, newline, text, digitByte, openByte, isDigit, decimal}
+use mathlib.Core.Option.{Option, none, some}
+use Rattle.rules.specs.Sheets.LooseSheet.{anyLevel}
 use Rattle.laws.specs.Numbers.Sizes.{levels-fit, inputs-fit}
 use Rattle.laws.specs.Lists.Tests.{both-leb, all-iff, all-mem, all-each}
 use Rattle.laws.specs.Lists.Same.{same-refl, same-true}
@@ -217,16 +218,15 @@ judges-level l = record {
 ink-only : (m : ℕ) (w : List ℕ) (a : ℕ) → inkField m w ≡ good a → (x : (d : ℕ) × (d ≤ m)) × (a ≡ x .0) × (w ≡ inkByte m (x .0) ∷ [])
 ink-only m [] a e = absurd (unfold inkField in not-good 6 a e)
 ink-only m (b ∷ c ∷ w) a e = absurd (unfold inkField in not-good 6 a e)
-ink-only m (b ∷ []) a e = go (ℕ-discrete b openByte)
-  where
-    go : Dec (b ≡ openByte) → (x : (d : ℕ) × (d ≤ m)) × (a ≡ x .0) × (b ∷ [] ≡ inkByte m (x .0) ∷ [])
-    go (yes sign) =
-        let opens = field-open m b sign in
-        ((m, omega arith), (cc), ap (λ c. c ∷ []) (sign ∙ sym (open-byte m m refl)))
-    go (no digit) =
-        let (t, q) = judged-good (isDigit m b) (b - 48) 6 a (sym (field-digit m b digit) ∙ e) in
-        let (h, k) = digit-back m b t in
-        ((b - 48, omega arith), q, ap (λ c. c ∷ []) (k ∙ sym (level-byte m (b - 48) (λ q. omega arith))))
+ink-only m (b ∷ []) a e = elim (ℕ-discrete b openByte) [
+  | yes sign ↦
+      let opens = field-open m b sign in
+      ((m, omega arith), (cc), ap (λ c. c ∷ []) (sign ∙ sym (open-byte m m refl)))
+  | no digit ↦
+      let (t, q) = judged-good (isDigit m b) (b - 48) 6 a (sym (field-digit m b digit) ∙ e) in
+      let (h, k) = digit-back m b t in
+      ((b - 48, omega arith), q, ap (λ c. c ∷ []) (k ∙ sym (level-byte m (b - 48) (λ q. omega arith))))
+]
 
 -- the byte of an ink is a good field, ..
 ink-passes : (m d : ℕ) → d ≤ m → inkField m (inkByte m d ∷ []) ≡ good d
@@ -239,11 +239,9 @@ ink-passes m d h = go (ℕ-discrete d m)
 
 -- .. and a word
 pub ink-word : (m d : ℕ) → isWord (inkByte m d ∷ []) ≡ true
-ink-word m d = go (ℕ-discrete d m)
-  where
-    go : Dec (d ≡ m) → isWord (inkByte m d ∷ []) ≡ true
-    go (yes same) = rw (open-byte m d same) (unfold isWord all plain isSeparator space newline in refl)
-    go (no below) = rw (level-byte m d below) (digit-word d)
+ink-word m d = by-cases (ℕ-discrete d m)
+    (λ same. rw (open-byte m d same) (unfold isWord all plain isSeparator space newline in refl))
+    (λ below. rw (level-byte m d below) (digit-word d))
 
 -- the ink field: a level below m, or m as its sign
 pub judges-ink : (m : ℕ) → Judges (inkField m) ((d : ℕ) × (d ≤ m)) (λ x. x .0) (λ x. inkByte m (x .0) ∷ [])

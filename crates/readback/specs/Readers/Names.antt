@@ -2,10 +2,10 @@
 -- Assumes nothing.
 use Rattle.laws.specs.Prelude.{ℕ, _<_, suc, zero, _≡_, refl, _↔_, true, false, List, [], _∷_, _++_, append-nil, arith, length, getD}
 use Rattle.rules.specs.Lists.{any, same}
-use Rattle.rules.specs.Text.{space}
 use Rattle.rules.specs.Sheets.Fields.{isSeparator}
-use Rattle.rules.specs.Sheets.Sheets.{isName, nameFields, nameFieldsIn}
 use Rattle.rules.specs.Sheets.SheetRules.{GoodNames}
+use Rattle.rules.specs.Sheets.Sheets.{isName, nameFields, nameFieldsIn}
+use Rattle.rules.specs.Text.{space}
 use Rattle.laws.specs.Lists.Same.{same-refl, same-comm}
 use Rattle.laws.specs.Lists.Distinct.{Unlike, unlike-differ}
 use Rattle.readback.specs.Readers.Collects.{Collects, collects-none, collects-more}

@@ -1,15 +1,15 @@
 -- The numbers with which a sheet is refused: a net sheet with 1, 2, 3, 4, 6, 7, 8 or 26, a table sheet with 1 to 6, a loose one with these and 20.
 -- Assumes nothing.
 use Rattle.laws.specs.Prelude.{ℕ, _+_, _-_, _^_, suc, _*_, zero, _≡_, sym, refl, true, false, Bool, _&&_, not, List, [], _∷_, _++_, map, eqb, length}
-use mathlib.Core.Option.{Option, none, some}
-use Rattle.rules.specs.Lists.{all, any, same}
-use Rattle.rules.specs.Text.{space, newline, digitByte, isDigit}
 use Rattle.rules.specs.Limits.{levelsFit, cellsFit}
+use Rattle.rules.specs.Lists.{all, any, same}
 use Rattle.rules.specs.Sheets.Fields.{Read, read, turnedBack, Judged, bad, judged, strict, loose, Layout, theWord}
-use Rattle.rules.specs.Sheets.Sheets.{levelsField, inputsOf, inputsField, isName, nameField, referenceOf, referenceField, digitsField, netSheet}
-use Rattle.rules.specs.Sheets.Sheets.{levelField, inkField, tableSheet}
-use Rattle.rules.specs.Sheets.LooseSheet.{Row, anyLevel, indexFields, isOf, notGiven, rowFrom, looseRows, looseSheet, readLoose}
 use Rattle.rules.specs.Sheets.Reading.{readNet, readTable}
+use Rattle.rules.specs.Sheets.Sheets.{levelsField, inputsOf, inputsField, isName, nameField, referenceOf, referenceField, digitsField, netSheet, levelField}
+use Rattle.rules.specs.Sheets.Sheets.{inkField, tableSheet}
+use Rattle.rules.specs.Text.{space, newline, digitByte, isDigit}
+use mathlib.Core.Option.{Option, none, some}
+use Rattle.rules.specs.Sheets.LooseSheet.{Row, anyLevel, indexFields, isOf, notGiven, rowFrom, looseRows, looseSheet, readLoose}
 use Rattle.readback.specs.Readers.Spells.{not-read}
 use Rattle.laws.specs.Lists.Distinct.{In}
 use Rattle.laws.specs.Nets.Inks.{field-bad}

@@ -2,10 +2,10 @@
 -- the refused field and the byte that follows it do not matter.
 -- Assumes nothing.
 use Rattle.laws.specs.Prelude.{ℕ, _≤_, suc, _≡_, ap, refl, List, zero-add, arith, length, take, drop}
-use Rattle.rules.specs.Sheets.Fields.{Read, read, turnedBack, Reader, run}
-use Rattle.rules.specs.Sheets.Sheets.{netSheet, tableSheet}
 use Rattle.rules.specs.Calls.Answers.{Answer, refused}
+use Rattle.rules.specs.Sheets.Fields.{Read, read, turnedBack, Reader, run}
 use Rattle.rules.specs.Sheets.Reading.{answered, readNet, readTable}
+use Rattle.rules.specs.Sheets.Sheets.{netSheet, tableSheet}
 use Rattle.laws.specs.Lists.Runs.{fieldEnd}
 use Rattle.readback.specs.Readers.Fronts.{FromFront, front-closed, turned-place, turned-alike, turned-through}
 use Rattle.readback.specs.Readers.Ends.{front-or-end, front-used}
@@ -52,12 +52,11 @@ module _ {A : Type 0} {r : Reader A} (front : FromFront r) where
 
   pub judged-from-front : JudgedFromFront (λ s. answered (r s 0))
   unfolding answered
-  judged-from-front =
-      record {
-        places-within = λ s number place e. rw (zero-add (length s)) at (turned-place front s 0 number place (refusal-turned s number place e));
-        front = λ s t number place e h. ap answered (turned-through front s t number place (refusal-turned s number place e) h);
-        field = λ s t number place e h k. ap answered (turned-alike front s t number place (refusal-turned s number place e) h k);
-      }
+  judged-from-front = record {
+    places-within = λ s number place e. rw (zero-add (length s)) at (turned-place front s 0 number place (refusal-turned s number place e));
+    front = λ s t number place e h. ap answered (turned-through front s t number place (refusal-turned s number place e) h);
+    field = λ s t number place e h k. ap answered (turned-alike front s t number place (refusal-turned s number place e) h k);
+  }
 
 pub net-judged : JudgedFromFront readNet
 unfolding readNet

@@ -1,7 +1,7 @@
 -- A reader and the texts that it reads. Reading is inverted once, reader by reader: a reader spells some values in some
 -- texts if it reads each of those texts back and accepts nothing else. The laws here combine such readers.
 -- Assumes nothing.
-use Rattle.laws.specs.Prelude.{ℕ, _≡_, _∙_, sym, ap, refl, List, [], _++_, append-assoc, arith}
+use Rattle.laws.specs.Prelude.{ℕ, _≡_, _∙_, sym, ap, refl, List, [], _++_, append-assoc, arith, read-cases}
 use Rattle.rules.specs.Sheets.Fields.{Read, read, turnedBack, Reader, then, _>>=_, give}
 
 -- `r` reads the texts `print x`, with value `value x`, if what follows such a text satisfies `Before`; it reads no others, and what it leaves
@@ -63,18 +63,12 @@ module _ {A B : Type 0} {Middle Before After : List ℕ → Type 0} {r : Reader 
   -- and nothing else is accepted
   then-only : (s : List ℕ) (at : ℕ) (b : B) (rest : List ℕ) (place : ℕ) → (r >>= k) s at ≡ read b rest place → Split s b rest
   unfolding then
-  then-only s at b rest place e = go (r s at) refl e
-    where
-      inner : (x : X) (t : List ℕ) (middle : ℕ) → s ≡ p x ++ t → k (f x) t middle ≡ read b rest place → Split s b rest
-      inner x t middle d e =
-          let (y, c, f, h) = next x .only t middle b rest place e in
-          join x y s t rest b d c f h
-
-      go : (u : Read A) → r s at ≡ u → then u k ≡ read b rest place → Split s b rest
-      go (turnedBack number turned) d e = absurd (not-read number turned b rest place e)
-      go (read a t middle) d e =
-          let (x, c, f, h) = first .only s at a t middle d in
-          inner x t middle f (rw c at e)
+  then-only s at b rest place e = read-cases (r s at)
+      (λ a t middle d.
+      let (x, c, f, h) = first .only s at a t middle d in
+      let (y, v, g, i) = next x .only t middle b rest place (rw c at (rw d at e)) in
+      join x y s t rest b f v g i)
+      (λ number turned d. absurd (not-read number turned b rest place (rw d at e)))
 
   pub spells-onto : SpellsBetween Before After (r >>= k) ((x : X) × Y x) (λ z. g (z .0) (z .1)) (λ z. p (z .0) ++ q (z .0) (z .1))
   unfolding Split

@@ -2,12 +2,11 @@
 -- it holds for the reader of a sheet, since that is built from these. `Among`, `FromFront` and `Goes` are such properties.
 -- Assumes nothing.
 use Rattle.laws.specs.Prelude.{ℕ, _-_, _^_, suc, zero, List, [], _∷_, _++_, length}
-use Prim.Native.String.{String}
-use Rattle.rules.specs.Text.{space, newline}
 use Rattle.rules.specs.Sheets.Fields.{Reader, _>>=_, give, Judge, Layout, strict, fieldIn, theWord, closed}
-use Rattle.rules.specs.Sheets.Sheets.{Gate, levelsField, inputsField, nameField, nameFieldsIn, headerLinesIn, referenceField, digitsField, usedBy}
-use Rattle.rules.specs.Sheets.Sheets.{gateLine, orEnd, gateLines, allUsed, netSheet, levelsAt, levelField, inkField, levelFields, rowLines}
-use Rattle.rules.specs.Sheets.Sheets.{tableSheet}
+use Rattle.rules.specs.Sheets.Sheets.{Gate, levelsField, inputsField, nameField, nameFieldsIn, headerLinesIn, referenceField, digitsField, usedBy, gateLine}
+use Rattle.rules.specs.Sheets.Sheets.{orEnd, gateLines, allUsed, netSheet, levelsAt, levelField, inkField, levelFields, rowLines, tableSheet}
+use Rattle.rules.specs.Text.{space, newline}
+use Prim.Native.String.{String}
 use Rattle.rules.specs.Sheets.ArrivalSheet.{Arrival, nextName, timeField, arrivalLine, arrivalLines, arrivalSheet}
 use Rattle.laws.specs.Lists.Distinct.{In}
 use Rattle.readback.specs.Readers.Among.{AmongJudge, Among, among-give, among-then, among-field-in}

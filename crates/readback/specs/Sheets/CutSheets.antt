@@ -5,19 +5,19 @@
 -- Assumes nothing.
 use Rattle.laws.specs.Prelude.{ℕ, _<_, _≤_, _+_, _-_, _^_, suc, _*_, zero, _≡_, _∙_, sym, ap, refl, ap₂, subst⁻¹, true, false, Bool, _&&_, not}
 use Rattle.laws.specs.Prelude.{and-eq-true-iff, List, [], _∷_, _++_, map, zero-add, mul-le-mul, arith, eqb, length, take, drop, length-append, length-drop}
-use Rattle.laws.specs.Prelude.{take-append-drop, length-take-le, eqb-true}
+use Rattle.laws.specs.Prelude.{take-append-drop, length-take-le, eqb-true, read-cases}
+use Rattle.rules.specs.Calls.Answers.{Answer, accepted, refused}
+use Rattle.rules.specs.Limits.{cellsFit, mostLevels, mostInputs}
+use Rattle.rules.specs.Lists.{all, any, same}
+use Rattle.rules.specs.Sheets.Fields.{Read, read, turnedBack, Reader, then, _>>=_, give, Judged, good, bad, judged, strict, run, field, theWord, closed}
+use Rattle.rules.specs.Sheets.Reading.{answered, readNet, readTable}
+use Rattle.rules.specs.Sheets.SheetRules.{GoodNames, HeaderRules}
+use Rattle.rules.specs.Sheets.Sheets.{Header, Gate, Net, levelsField, inputsOf, inputsField, isName, nameField, nameFields, nameFieldsIn, headerLines}
+use Rattle.rules.specs.Sheets.Sheets.{headerLinesIn, referenceText, referenceOf, referenceField, digitsField, usedBy, gateLine, orEnd, gateLines, allUsed}
+use Rattle.rules.specs.Sheets.Sheets.{netSheet, levelsAt, levelField, inkField, levelFields, rowLines, tableSheet}
+use Rattle.rules.specs.Text.{space, newline, text, digitByte, isDigit}
 use Prim.Native.String.{String}
 use mathlib.Core.Option.{Option, none, some}
-use Rattle.rules.specs.Lists.{all, any, same}
-use Rattle.rules.specs.Text.{space, newline, text, digitByte, isDigit}
-use Rattle.rules.specs.Limits.{cellsFit, mostLevels, mostInputs}
-use Rattle.rules.specs.Sheets.Fields.{Read, read, turnedBack, Reader, then, _>>=_, give, Judged, good, bad, judged, strict, run, field, theWord, closed}
-use Rattle.rules.specs.Sheets.Sheets.{Header, Gate, Net, levelsField, inputsOf, inputsField, isName, nameField, nameFields, nameFieldsIn}
-use Rattle.rules.specs.Sheets.Sheets.{headerLines, headerLinesIn, referenceText, referenceOf, referenceField, digitsField, usedBy, gateLine, orEnd}
-use Rattle.rules.specs.Sheets.Sheets.{gateLines, allUsed, netSheet, levelsAt, levelField, inkField, levelFields, rowLines, tableSheet}
-use Rattle.rules.specs.Sheets.SheetRules.{GoodNames, HeaderRules}
-use Rattle.rules.specs.Calls.Answers.{Answer, accepted, refused}
-use Rattle.rules.specs.Sheets.Reading.{answered, readNet, readTable}
 use Rattle.laws.specs.Lists.Same.{same-true, same-length}
 use Rattle.laws.specs.Calls.Answers.{not-refused}
 use Rattle.laws.specs.Nets.Inks.{field-bad}
@@ -328,12 +328,11 @@ module _ (h : Header) where
   firm-or-end gates more b positive firm [] at number place e =
       let (late, here) = end-turned gates at number place e in
       late-end late (omega arith) (omega arith)
-  firm-or-end gates more b positive firm (c ∷ s) at number place e = go (firm (c ∷ s) at number place e)
-    where
-      go : Stopped 26 (more >>= afterGates h) b (c ∷ s) at number place → Stopped 26 (orEnd gates more >>= afterGates h) b (c ∷ s) at number place
-      go (at-end one end) = at-end one end
-      go (late-end is short end) = late-end is short end
-      go (before within stays) = before within stays
+  firm-or-end gates more b positive firm (c ∷ s) at number place e = elim (firm (c ∷ s) at number place e) [
+    | at-end one end ↦ at-end one end
+    | late-end is short end ↦ late-end is short end
+    | before within stays ↦ before within stays
+  ]
 
   module _ (small : h .levels ≤ mostLevels) (good-names : GoodNames (h .names)) where
     firm-gates : (count : ℕ) (earlier : List Gate) → length earlier + count ≤ 99
@@ -444,7 +443,9 @@ pub record Cutting {A : Type 0} (call : List ℕ → Answer A) (first late : ℕ
 module _ {A : Type 0} {r : Reader A} {first late : ℕ} {Whole : A → Type 0} (firm : Firm late first r) (shuts : Shuts Whole r) where
   part-cases : (s : List ℕ) (k : ℕ) → k ≤ length s → Cut first late (answered (r (take k s) 0)) k
   unfolding answered
-  part-cases s k within = go (r (take k s) 0) refl
+  part-cases s k within = read-cases (r (take k s) 0)
+      (λ a rest p d. ended a (rw d refl))
+      (λ number place d. turned number place d (firm (take k s) 0 number place d))
     where
       part : length (take k s) ≡ k
       part = length-take-le k s within
@@ -454,10 +455,6 @@ module _ {A : Type 0} {r : Reader A} {first late : ℕ} {Whole : A → Type 0} (
       turned number place d (at-end one end) = unended (rw d (ap₂ refused one (end ∙ zero-add (length (take k s)) ∙ part)))
       turned number place d (late-end is short end) = lately (omega (arith, part)) (rw d (ap₂ refused is (end ∙ zero-add (length (take k s)) ∙ part)))
       turned number place d (before early _) = faulty number place (rw d refl) (omega (arith, part))
-
-      go : (u : Read A) → r (take k s) 0 ≡ u → Cut first late (answered (r (take k s) 0)) k
-      go (read a rest p) d = ended a (rw d refl)
-      go (turnedBack number place) d = turned number place d (firm (take k s) 0 number place d)
 
   part-fault : (s : List ℕ) (k : ℕ) → k ≤ length s → first ≤ k → (number place : ℕ) → answered (r (take k s) 0) ≡ refused number place → place < k
       → answered (r s 0) ≡ refused number place
@@ -480,19 +477,13 @@ module _ {A : Type 0} {r : Reader A} {first late : ℕ} {Whole : A → Type 0} (
   unfolding answered
   part-more s k within a e is = go (r (take k s) 0) refl e (drop k s) refl
     where
-      part : length (take k s) ≡ k
-      part = length-take-le k s (omega arith)
-
-      left : length (drop k s) ≡ length s - k
-      left = length-drop k s
-
       go : (u : Read A) → r (take k s) 0 ≡ u → answered u ≡ accepted a → (t : List ℕ) → drop k s ≡ t → answered (r s 0) ≡ refused 1 k
       go (turnedBack j p) d e t f = absurd (not-refused a j p (sym e))
-      go (read b rest p) d e [] f = absurd (omega (arith, left, ap length f))
+      go (read b rest p) d e [] f = absurd (omega (arith, length-drop k s, ap length f))
       go (read b rest p) d e (c ∷ t) f =
           let whole : s ≡ take k s ++ c ∷ t = sym (take-append-drop k s) ∙ ap (λ u. take k s ++ u) f in
           ap answered (ap (λ u. r u 0) whole ∙ shuts (take k s) 0 b rest p d (let same : a ≡ b = cc in rw same at is) .after c t)
-          ∙ ap (refused 1) (zero-add (length (take k s)) ∙ part)
+          ∙ ap (refused 1) (zero-add (length (take k s)) ∙ length-take-le k s (omega arith))
 
   cutting : Cutting (λ s. answered (r s 0)) first late Whole
   cutting = record { cases = part-cases; fault = part-fault; more = part-more }
@@ -509,13 +500,12 @@ net-cut = cutting firm-net shuts-net
 pub not-ended : {A : Type 0} {call : List ℕ → Answer A} {first late : ℕ} {Whole : A → Type 0} → Cutting call first late Whole → (s : List ℕ) (k : ℕ) → first ≤ k
     → k ≤ length s → ((number place : ℕ) → call s ≡ refused number place → k ≤ place) → ((a : A) → call (take k s) ≡ accepted a → ⊥)
     → call (take k s) ≡ refused 1 k
-not-ended {A} {call} {first} {late} cut s k long within faultless going = go (cut .cases s k within)
-  where
-    go : Cut first late (call (take k s)) k → call (take k s) ≡ refused 1 k
-    go (ended a e) = absurd (going a e)
-    go (faulty number place e early) = absurd (omega (arith, faultless number place (cut .fault s k within long number place e early)))
-    go (unended e) = e
-    go (lately short e) = absurd (omega arith)
+not-ended {A} {call} {first} {late} cut s k long within faultless going = elim (cut .cases s k within) [
+  | ended a e ↦ absurd (going a e)
+  | faulty number place e early ↦ absurd (omega (arith, faultless number place (cut .fault s k within long number place e early)))
+  | unended e ↦ e
+  | lately short e ↦ absurd (omega arith)
+]
 
 -- .. and so is an accepted sheet that is longer, if none may continue
 pub accepted-longer : {A : Type 0} {call : List ℕ → Answer A} {first late : ℕ} → Cutting call first late Every → (s : List ℕ) (k : ℕ) → first ≤ k

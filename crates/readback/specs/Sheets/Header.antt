@@ -2,11 +2,11 @@
 -- Assumes nothing.
 use Rattle.laws.specs.Prelude.{ℕ, _≡_, sym, refl, true, List, [], _∷_, _++_, append-assoc, append-nil}
 use Rattle.rules.specs.Lists.{all, same}
-use Rattle.rules.specs.Text.{space, newline, text, decimal}
 use Rattle.rules.specs.Sheets.Fields.{isSeparator}
-use Rattle.rules.specs.Sheets.Sheets.{Header, headerLines, headerLinesIn}
 use Rattle.rules.specs.Sheets.Printed.{line}
 use Rattle.rules.specs.Sheets.SheetRules.{HeaderRules}
+use Rattle.rules.specs.Sheets.Sheets.{Header, headerLines, headerLinesIn}
+use Rattle.rules.specs.Text.{space, newline, text, decimal}
 use Rattle.readback.specs.Readers.Spells.{Spells, spells-give, spells-then, spells-as}
 use Rattle.readback.specs.Readers.Fields.{plain, isWord, spells-field, judges-word}
 use Rattle.readback.specs.Readers.Judges.{judges-levels, judges-inputs}

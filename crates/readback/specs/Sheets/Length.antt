@@ -2,16 +2,16 @@
 -- Assumes nothing.
 use Rattle.laws.specs.Prelude.{ℕ, _<_, _≤_, _+_, _-_, suc, _*_, refl, List, [], _∷_, mul-le-mul-right, le-trans, arith, length, getD, length-append}
 use Rattle.laws.specs.Prelude.{length-map}
-use Rattle.rules.specs.Lists.{range, all, concatMap}
-use Rattle.rules.specs.Text.{text}
 use Rattle.rules.specs.Limits.{cellsFit, mostSettled}
-use Rattle.rules.specs.Sheets.Sheets.{Gate, Net, referenceText}
+use Rattle.rules.specs.Lists.{range, all, concatMap}
 use Rattle.rules.specs.Sheets.Printed.{line, firstLines, printedGate, printedNet}
 use Rattle.rules.specs.Sheets.SheetRules.{GoodNames, GateTable, RefersBack, Tables, NetRules}
+use Rattle.rules.specs.Sheets.Sheets.{Gate, Net, referenceText}
+use Rattle.rules.specs.Text.{text}
 use Rattle.laws.specs.Numbers.Decimals.{decimal-length}
 use Rattle.readback.specs.Readers.Judges.{name-parts}
 use Rattle.readback.specs.Readers.Names.{good-name}
-use Rattle.readback.specs.Nets.References.{Refers, toInput, toGate, refers}
+use Rattle.readback.specs.Nets.References.{toInput, toGate, refers}
 use Rattle.laws.specs.Numbers.Sizes.{kept-size, everySize, bounded-at}
 
 -- ---- the parts of a sheet
@@ -30,11 +30,10 @@ names-length (w ∷ v ∷ ws) g h =
 
 -- a reference to an input or to one of the first 99 gates is no longer than a name
 pub reference-length : (names : List (List ℕ)) → GoodNames names → (r : ℕ) → r < length names + 99 → length (referenceText names r) ≤ 8
-reference-length names g r h = go (refers names r)
-  where
-    go : Refers names r → length (referenceText names r) ≤ 8
-    go (toInput l e) = rw e (name-parts (getD names r []) (good-name names g r l) .0)
-    go (toGate l e) = rw e (le-trans (decimal-length 1 (r + 1 - length names) (omega arith)) (omega arith))
+reference-length names g r h = elim (refers names r) [
+  | toInput l e ↦ rw e (name-parts (getD names r []) (good-name names g r l) .0)
+  | toGate l e ↦ rw e (le-trans (decimal-length 1 (r + 1 - length names) (omega arith)) (omega arith))
+]
 
 -- a gate line: two references, the digits and three separators
 gate-length : (names : List (List ℕ)) → GoodNames names → (m : ℕ) (g : Gate) → g .left < length names + 99 → g .right < length names + 99

@@ -1,14 +1,14 @@
 -- A sheet as lines: its text is each line's bytes, then a line feed, and no line contains a line feed. This holds for a printed net, since its
 -- fields are words.
 -- Assumes nothing.
-use Rattle.laws.specs.Prelude.{ℕ, _<_, suc, zero, _≡_, _∙_, sym, ap, refl, true, false, Bool, not, _||_, false≢true, List, [], _∷_, _++_, map}
-use Rattle.laws.specs.Prelude.{append-assoc, append-nil, arith, eqb, length, append-snoc, not-true}
+use Rattle.laws.specs.Prelude.{ℕ, _<_, suc, zero, _≡_, _∙_, sym, ap, refl, true, false, Bool, not, _||_, false≢true, List, [], _∷_, _++_, map, append-assoc}
+use Rattle.laws.specs.Prelude.{append-nil, arith, eqb, length, append-snoc, not-true}
 use Rattle.rules.specs.Lists.{all, concatMap}
-use Rattle.rules.specs.Text.{space, newline, text, digitByte, decimal}
 use Rattle.rules.specs.Sheets.Fields.{isSeparator}
-use Rattle.rules.specs.Sheets.Sheets.{Header, Gate, Net, referenceText}
 use Rattle.rules.specs.Sheets.Printed.{line, firstLines, printedGate, printedNet}
 use Rattle.rules.specs.Sheets.SheetRules.{GoodNames, Tables, HeaderRules, NetRules}
+use Rattle.rules.specs.Sheets.Sheets.{Header, Gate, Net, referenceText}
+use Rattle.rules.specs.Text.{space, newline, text, digitByte, decimal}
 use Rattle.laws.specs.Lists.Concat.{concat-append, concat-map, concat-same}
 use Rattle.laws.specs.Numbers.Sizes.{levels-fit}
 use Rattle.laws.specs.Lists.Tests.{all-iff}

@@ -2,12 +2,12 @@
 -- exactly what would be printed and follows every rule.
 -- Assumes nothing.
 use Rattle.laws.specs.Prelude.{ℕ, _≡_, _∙_, ap, refl, _↔_, List, [], _++_, append-nil, arith}
-use Rattle.rules.specs.Sheets.Fields.{Read, read, turnedBack, Reader}
-use Rattle.rules.specs.Sheets.Sheets.{Net, Table}
-use Rattle.rules.specs.Sheets.Printed.{printedNet, printedTable}
-use Rattle.rules.specs.Sheets.SheetRules.{NetRules, TableRules}
 use Rattle.rules.specs.Calls.Answers.{Answer, accepted, refused}
+use Rattle.rules.specs.Sheets.Fields.{Read, read, turnedBack, Reader}
+use Rattle.rules.specs.Sheets.Printed.{printedNet, printedTable}
 use Rattle.rules.specs.Sheets.Reading.{answered, readNet, readTable}
+use Rattle.rules.specs.Sheets.SheetRules.{NetRules, TableRules}
+use Rattle.rules.specs.Sheets.Sheets.{Net, Table}
 use Rattle.readback.specs.Readers.Spells.{SpellsTo}
 use Rattle.readback.specs.Readers.Fields.{Ended}
 use Rattle.readback.specs.Nets.NetSheets.{spells-net}

@@ -2,9 +2,9 @@
 -- the line feed if that is due.
 -- Assumes nothing.
 use Rattle.laws.specs.Prelude.{ℕ, _+_, suc, zero, _≡_, _∙_, sym, ap, refl, true, false, Bool, false≢true, List, [], _∷_, _++_, append-assoc, arith, eqb}
-use Rattle.laws.specs.Prelude.{replicate, eqb-true}
-use Rattle.rules.specs.Text.{space, newline}
+use Rattle.laws.specs.Prelude.{replicate, eqb-true, test-cases}
 use Rattle.rules.specs.Sheets.Fields.{read, turnedBack, then, Judge, isSeparator, separator, pastSpaces, spacesIn, spaces, loose, looseSeparator, fieldIn}
+use Rattle.rules.specs.Text.{space, newline}
 use Rattle.rules.specs.Sheets.LooseSheet.{blanks}
 use Rattle.laws.specs.Lists.Tests.{all-iff}
 use Rattle.readback.specs.Readers.Spells.{SpellsBetween, Any, Spells, not-read}
@@ -28,11 +28,8 @@ loose-at-other b s e = (rw (e, pastSpaces) refl, rw (e, spacesIn) refl)
 -- if the text does not start with a space, none is skipped
 none-passed : (s : List ℕ) → NoSpace s → pastSpaces s ≡ s
 none-passed [] h = unfold pastSpaces in refl
-none-passed (b ∷ s) h = go (eqb b space) refl
-  where
-    go : (t : Bool) → eqb b space ≡ t → pastSpaces (b ∷ s) ≡ b ∷ s
-    go true e = absurd (omega (arith, loose-at-space b s e .1))
-    go false e = loose-at-other b s e .0
+none-passed (b ∷ s) h =
+    test-cases (eqb b space) (λ e. absurd (omega (arith, loose-at-space b s e .1))) (λ e. loose-at-other b s e .0)
 
 -- all blanks before something else are skipped
 blanks-passed : (count : ℕ) (rest : List ℕ) → NoSpace rest → pastSpaces (blanks count ++ rest) ≡ rest
@@ -44,15 +41,13 @@ blanks-passed (suc count) rest h = blanks-passed count rest h
 passed-blanks : (s : List ℕ) → s ≡ blanks (spacesIn s) ++ pastSpaces s
 unfolding blanks
 passed-blanks [] = unfold pastSpaces spacesIn in refl
-passed-blanks (b ∷ s) = go (eqb b space) refl (passed-blanks s)
-  where
-    go : (t : Bool) → eqb b space ≡ t → s ≡ blanks (spacesIn s) ++ pastSpaces s → b ∷ s ≡ blanks (spacesIn (b ∷ s)) ++ pastSpaces (b ∷ s)
-    go true e ih =
-        let (past, count) = loose-at-space b s e in
-        rw (past, count) (ap (λ (c : ℕ). c ∷ s) (eqb-true b space e) ∙ ap (λ (t : List ℕ). space ∷ t) ih)
-    go false e ih =
-        let (past, count) = loose-at-other b s e in
-        rw (past, count) refl
+passed-blanks (b ∷ s) = test-cases (eqb b space)
+    (λ e.
+    let (past, count) = loose-at-space b s e in
+    rw (past, count) (ap (λ (c : ℕ). c ∷ s) (eqb-true b space e) ∙ ap (λ (t : List ℕ). space ∷ t) (passed-blanks s)))
+    (λ e.
+    let (past, count) = loose-at-other b s e in
+    rw (past, count) refl)
 
 -- ---- the two separators
 
@@ -122,8 +117,6 @@ module _ {A : Type 0} {judge : Judge A} {X : Type 0} {f : X → A} {p : X → Li
 pub word-first : (w rest : List ℕ) → isWord w ≡ true → NoSpace (w ++ rest)
 unfolding isWord plain isSeparator
 word-first [] rest h = absurd (false≢true h)
-word-first (b ∷ w) rest h = go (eqb b space) refl (all-iff plain b w .0 h .0)
-  where
-    go : (t : Bool) → eqb b space ≡ t → plain b ≡ true → NoSpace (b ∷ (w ++ rest))
-    go true e k = absurd (false≢true (rw e at k))
-    go false e k = loose-at-other b (w ++ rest) e .1
+word-first (b ∷ w) rest h = test-cases (eqb b space)
+    (λ e. absurd (false≢true (rw e at (all-iff plain b w .0 h .0))))
+    (λ e. loose-at-other b (w ++ rest) e .1)

@@ -1,15 +1,15 @@
 -- Where a loose sheet is refused: the place is at most the sheet's length. The place of a repeated row is its first field, which is before what is
 -- judged then. So each reader is considered with a place that is not after its start.
 -- Assumes nothing.
-use Rattle.laws.specs.Prelude.{ℕ, _≤_, _+_, _^_, suc, _*_, zero, _≡_, _∙_, ap, refl, true, false, Bool, List, [], _∷_, _++_, arith, eqb, length}
+use Rattle.laws.specs.Prelude.{ℕ, _≤_, _+_, _^_, suc, _*_, zero, _≡_, _∙_, ap, refl, true, false, Bool, List, [], _∷_, _++_, arith, eqb, length, test-cases}
 use Rattle.laws.specs.Prelude.{length-append}
-use Rattle.rules.specs.Lists.{any}
-use Rattle.rules.specs.Text.{space, newline}
-use Rattle.rules.specs.Sheets.Fields.{Read, read, turnedBack, Reader, then, _>>=_, give, Judged, good, bad, Judge, run, past, separator, pastSpaces}
-use Rattle.rules.specs.Sheets.Fields.{spacesIn, spaces, loose, looseSeparator, afterFieldIn, fieldOfIn, fieldIn, theWord, closed}
-use Rattle.rules.specs.Sheets.Sheets.{levelsField, inputsField, nameField, nameFieldsIn, headerLinesIn, inkField}
 use Rattle.rules.specs.Calls.Answers.{refused}
+use Rattle.rules.specs.Lists.{any}
+use Rattle.rules.specs.Sheets.Fields.{Read, read, turnedBack, Reader, then, _>>=_, give, Judged, good, bad, Judge, run, past, separator, pastSpaces, spacesIn}
+use Rattle.rules.specs.Sheets.Fields.{spaces, loose, looseSeparator, afterFieldIn, fieldOfIn, fieldIn, theWord, closed}
 use Rattle.rules.specs.Sheets.Reading.{answered}
+use Rattle.rules.specs.Sheets.Sheets.{levelsField, inputsField, nameField, nameFieldsIn, headerLinesIn, inkField}
+use Rattle.rules.specs.Text.{space, newline}
 use Rattle.rules.specs.Sheets.LooseSheet.{Row, LooseTable, anyLevel, indexFields, isOf, notGiven, rowFrom, looseRows, looseSheet, readLoose}
 use Rattle.laws.specs.Lists.Runs.{run-past}
 use Rattle.readback.specs.Tables.LooseFields.{loose-at-space, loose-at-other}
@@ -45,11 +45,9 @@ module _ (first : ℕ) where
 
   spaces-length : (s : List ℕ) → spacesIn s + length (pastSpaces s) ≡ length s
   spaces-length [] = unfold spacesIn pastSpaces in refl
-  spaces-length (b ∷ s) = go (eqb b space) refl (spaces-length s)
-    where
-      go : (t : Bool) → eqb b space ≡ t → spacesIn s + length (pastSpaces s) ≡ length s → spacesIn (b ∷ s) + length (pastSpaces (b ∷ s)) ≡ suc (length s)
-      go true e ih = rw (loose-at-space b s e .0, loose-at-space b s e .1) (omega arith)
-      go false e ih = rw (loose-at-other b s e .0, loose-at-other b s e .1) (omega arith)
+  spaces-length (b ∷ s) = test-cases (eqb b space)
+      (λ e. rw (loose-at-space b s e .0, loose-at-space b s e .1) (omega (arith, spaces-length s)))
+      (λ e. rw (loose-at-other b s e .0, loose-at-other b s e .1) (omega (arith, spaces-length s)))
 
   within-spaces : {A : Type 0} (a : A) → Within first (spaces a)
   unfolding spaces

@@ -2,15 +2,15 @@
 -- Assumes nothing.
 use Rattle.laws.specs.Prelude.{ℕ, _<_, _≤_, _+_, _^_, suc, _*_, zero, _≡_, _∙_, sym, ap, refl, subst, subst⁻¹, _↔_, true, false, Bool, List, [], _∷_, _++_}
 use Rattle.laws.specs.Prelude.{map, append-assoc, append-nil, arith, eqb, length, append-snoc}
+use Rattle.rules.specs.Calls.Answers.{accepted}
 use Rattle.rules.specs.Lists.{all, any, same}
-use Rattle.rules.specs.Text.{space, newline, text, digitByte, decimal}
 use Rattle.rules.specs.Sheets.Fields.{Read, Reader, read, turnedBack, _>>=_, give, isSeparator, loose, fieldIn}
-use Rattle.rules.specs.Sheets.Sheets.{Header, isName, nameField, nameFieldsIn, headerLinesIn, inkByte, levelsAt}
 use Rattle.rules.specs.Sheets.SheetRules.{GoodNames, Distinct, HeaderRules}
+use Rattle.rules.specs.Sheets.Sheets.{Header, isName, nameField, nameFieldsIn, headerLinesIn, inkByte, levelsAt}
+use Rattle.rules.specs.Text.{space, newline, text, digitByte, decimal}
 use Rattle.rules.specs.Sheets.LooseSheet.{Row, LooseTable, indexFields, isOf, notGiven, rowFrom, looseRows, looseSheet, blanks, LooseLine}
 use Rattle.rules.specs.Sheets.LooseSheet.{LooseLines, rowFields, looseFields, EachRow, IsLoose}
 use Rattle.rules.specs.Sheets.LooseSheet.{readLoose}
-use Rattle.rules.specs.Calls.Answers.{accepted}
 use Rattle.readback.specs.Sheets.ReadBack.{whole-back, whole-only}
 use Rattle.laws.specs.Lists.Fresh.{Fresh, fresh-first, fresh-last}
 use Rattle.laws.specs.Lists.Same.{eqb-comm}

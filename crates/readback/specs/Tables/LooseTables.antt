@@ -2,14 +2,14 @@
 -- follows the rules of a table sheet. A strict sheet is a loose one, with its rows in order, and is the sheet of its own table.
 -- Assumes nothing.
 use Rattle.laws.specs.Prelude.{ℕ, _<_, _≤_, _+_, _^_, suc, zero, _≡_, _∙_, sym, ap, refl, subst⁻¹, true, false, Bool, false≢true, List, [], _∷_, _++_, map}
-use Rattle.laws.specs.Prelude.{append-assoc, zero-add, arith, eqb, length, getD, length-map, ext-getD, eq-eqb, eqb-true, ne-eqb}
-use Rattle.rules.specs.Lists.{range, any, find}
-use Rattle.rules.specs.Text.{text, decimal}
-use Rattle.rules.specs.Sheets.Sheets.{Table}
-use Rattle.rules.specs.Sheets.Printed.{line, firstLines, printedRow, printedRows, printedTable}
-use Rattle.rules.specs.Sheets.SheetRules.{Distinct, TableRules}
+use Rattle.laws.specs.Prelude.{append-assoc, zero-add, arith, eqb, length, getD, length-map, ext-getD, eq-eqb, eqb-true, ne-eqb, test-cases}
 use Rattle.rules.specs.Calls.Answers.{accepted}
+use Rattle.rules.specs.Lists.{range, any, find}
+use Rattle.rules.specs.Sheets.Printed.{line, firstLines, printedRow, printedRows, printedTable}
 use Rattle.rules.specs.Sheets.Reading.{readTable}
+use Rattle.rules.specs.Sheets.SheetRules.{Distinct, TableRules}
+use Rattle.rules.specs.Sheets.Sheets.{Table}
+use Rattle.rules.specs.Text.{text, decimal}
 use Rattle.rules.specs.Sheets.LooseSheet.{Row, LooseTable, inkNamed, tableOfLoose, blanks, LooseLine, LooseLines, rowFields, looseFields, EachRow}
 use Rattle.rules.specs.Sheets.LooseSheet.{LooseRules, IsLoose, readLoose}
 use Rattle.laws.specs.Lists.Counts.{times-range}
@@ -78,11 +78,8 @@ module _ (m n : ℕ) where
   named-ink : (rows : List Row) → EachRow m n rows → (p : ℕ) → inkNamed rows p ≤ m
   unfolding inkNamed find
   named-ink [] each p = omega arith
-  named-ink (row ∷ rows) (_, j, each) p = go (eqb (row .index) p) refl (named-ink rows each p)
-    where
-      go : (t : Bool) → eqb (row .index) p ≡ t → inkNamed rows p ≤ m → inkNamed (row ∷ rows) p ≤ m
-      go true e later = rw (e, find) j
-      go false e later = rw (e, find) later
+  named-ink (row ∷ rows) (_, j, each) p =
+      test-cases (eqb (row .index) p) (λ e. rw (e, find) j) (λ e. rw (e, find) (named-ink rows each p))
 
 -- ---- the table
 

@@ -1,13 +1,13 @@
 -- How long an accepted table sheet can be, and which are longer than what a program reads.
 -- Assumes nothing.
-use Rattle.laws.specs.Prelude.{ℕ, _<_, _≤_, _+_, _^_, suc, _*_, _≡_, _∙_, sym, ap, refl, ap₂, _⊎_, inl, inr, true, false, Bool, _&&_, and-eq-true-iff}
-use Rattle.laws.specs.Prelude.{_||_, List, [], _∷_, _++_, map, zero-mul, suc-mul, le-trans, arith, eqb, leb, length, length-append, eqb-true, leb-true}
-use Rattle.rules.specs.Lists.{range, all}
-use Rattle.rules.specs.Text.{text, digitByte}
+use Rattle.laws.specs.Prelude.{ℕ, _<_, _≤_, _+_, _^_, suc, _*_, _≡_, _∙_, sym, ap, refl, ap₂, _⊎_, inl, inr, true, false, Bool, _&&_, and-eq-true-iff, _||_}
+use Rattle.laws.specs.Prelude.{List, [], _∷_, _++_, map, zero-mul, suc-mul, le-trans, arith, eqb, leb, length, length-append, eqb-true, leb-true}
 use Rattle.rules.specs.Limits.{cellsFit, mostTableSheet, mostRead}
-use Rattle.rules.specs.Sheets.Sheets.{Table, levelsAt, inkByte}
+use Rattle.rules.specs.Lists.{range, all}
 use Rattle.rules.specs.Sheets.Printed.{line, firstLines, printedRow, printedRows, printedTable}
 use Rattle.rules.specs.Sheets.SheetRules.{GoodNames, TableRules}
+use Rattle.rules.specs.Sheets.Sheets.{Table, levelsAt, inkByte}
+use Rattle.rules.specs.Text.{text, digitByte}
 use Rattle.laws.specs.Numbers.Decimals.{decimal-length}
 use Rattle.laws.specs.Numbers.Levels.{levels-length}
 use Rattle.laws.specs.Numbers.Sizes.{kept-size, everySize, at-size, bounded-at}

@@ -2,11 +2,11 @@
 -- Assumes nothing.
 use Rattle.laws.specs.Prelude.{ℕ, _≤_, _^_, suc, zero, _≡_, sym, refl, List, [], _∷_, _++_, map, append-assoc, append-nil, arith, length}
 use Rattle.rules.specs.Lists.{all}
-use Rattle.rules.specs.Text.{space, newline, text, digitByte}
 use Rattle.rules.specs.Sheets.Fields.{_>>=_, isSeparator, field}
-use Rattle.rules.specs.Sheets.Sheets.{Header, Table, levelsAt, levelFields, inkField, inkByte, rowLines, tableSheet}
 use Rattle.rules.specs.Sheets.Printed.{line, firstLines, printedRow, printedRows, printedTable}
 use Rattle.rules.specs.Sheets.SheetRules.{TableRules}
+use Rattle.rules.specs.Sheets.Sheets.{Header, Table, levelsAt, levelFields, inkField, inkByte, rowLines, tableSheet}
+use Rattle.rules.specs.Text.{space, newline, text, digitByte}
 use Rattle.laws.specs.Lists.Bounds.{Below, below-at, at-below}
 use Rattle.readback.specs.Readers.Spells.{Spells, SpellsTo, spells-give, spells-then, spells-as}
 use Rattle.readback.specs.Readers.Collects.{Collects, collects-none, collects-more, then-then}

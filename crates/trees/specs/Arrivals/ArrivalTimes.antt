@@ -5,20 +5,20 @@ use Rattle.laws.specs.Prelude.{ℕ, _<_, _≤_, _+_, _-_, suc, _*_, max, _≡_,
 use Rattle.laws.specs.Prelude.{List·Memᴰ, List·Memᴰ·head, List·Memᴰ·not-nil, List·Memᴰ·append-cases, map-map, List·Memᴰ·eq-of-singleton, Memᴰ·append-right}
 use Rattle.laws.specs.Prelude.{Memᴰ·append-left, Memᴰ·of-map, Memᴰ·map, add-comm, le-antisymm, mul-suc, max-zero, arith, max-cases, eqb, length, getD}
 use Rattle.laws.specs.Prelude.{length-append, length-map, eq-eqb, eqb-true}
-use Rattle.rules.specs.Lists.{range, any}
-use Rattle.rules.specs.Sheets.Sheets.{Gate, usedBy}
 use Rattle.rules.specs.Groups.Groups.{member}
-use Rattle.rules.specs.Sheets.SheetRules.{RefersBack, IsNet}
-use Rattle.rules.specs.Nets.Wirings.{Wiring, input, gate, groupOf}
-use Rattle.rules.specs.Nets.Layers.{most, layers}
+use Rattle.rules.specs.Lists.{range, any}
 use Rattle.rules.specs.Nets.Arrivals.{startsAt, waysFrom, gatesOnWay, usedInputs, settlingTime}
+use Rattle.rules.specs.Nets.Trees.{Tree, leaf, wiringIn, EachOnce}
+use Rattle.rules.specs.Nets.Wirings.{Wiring, input, gate, groupOf}
+use Rattle.rules.specs.Sheets.SheetRules.{RefersBack, IsNet}
+use Rattle.rules.specs.Sheets.Sheets.{Gate, usedBy}
+use Rattle.rules.specs.Nets.Layers.{most, layers}
 use Rattle.laws.specs.Lists.Extremes.{most-bounds, most-listed}
 use Rattle.laws.specs.Lists.Places.{map-at, mem-place}
 use Rattle.laws.specs.Lists.Ranges.{by-places}
 use Rattle.laws.specs.Lists.Same.{eqb-comm}
 use Rattle.laws.specs.Lists.Tests.{oneWhere, one-if-or, not-false-true}
 use Rattle.laws.specs.Nets.Times.{gateTime, withTimes}
-use Rattle.rules.specs.Nets.Trees.{Tree, leaf, wiringIn, EachOnce}
 use Rattle.laws.specs.Lists.WithEach.{with-each-length, gates-step}
 use Rattle.trees.specs.Groups.Members.{member-single, member-join}
 use Rattle.trees.specs.Trees.Wirings.{group-below}
@@ -203,8 +203,7 @@ module _ (m n : ℕ) (gates : List Gate) (net : IsNet m n gates) where
         reached : timeIn delay arrival tree ≤ most (map through (usedInputs n gates))
         reached =
             let slow = slowest delay arrival n tree (net-tree m n gates net .once) in
-            let used : any (eqb (slow .from)) (usedBy gates) ≡ true =
-            net-uses m n gates net (slow .from) (slow .below)
+            let used : any (eqb (slow .from)) (usedBy gates) ≡ true = net-uses m n gates net (slow .from) (slow .below)
             ∙ leaf-from n (slow .from) (slow .gates) (slow .below) tree (net-tree m n gates net .once) (slow .way) in
             rw (slow .takes, only-way (slow .from) (slow .gates) (slow .below) used (slow .way))
             (most-bounds (through (slow .from)) (map through (usedInputs n gates)) (Memᴰ·map through (used-listed n gates (slow .from) (slow .below) used)))

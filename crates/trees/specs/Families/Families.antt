@@ -3,15 +3,15 @@
 -- Assumes nothing.
 use Rattle.laws.specs.Prelude.{ℕ, _<_, _≤_, _+_, _-_, _^_, suc, _*_, zero, _%_, _/_, _≡_, _∙_, sym, ap, refl, ap₂, _≢_, List, mod-lt, div-lt-iff-lt-mul}
 use Rattle.laws.specs.Prelude.{div-add-mod', mul-zero, ℕ-discrete, arith, ne-eqb, digits-lt, digits-mod, digits-div}
-use Rattle.rules.specs.Sheets.SheetRules.{Distinct}
 use Rattle.rules.specs.Groups.Groups.{size}
 use Rattle.rules.specs.Groups.Marks.{markIn}
-use Rattle.rules.specs.Nets.Wirings.{Wiring, input, gate, groupOf, firstInput}
-use Rattle.rules.specs.Nets.SettledLaws.{MayBeA}
 use Rattle.rules.specs.Nets.Family.{splitsOf, splitCount, countsOf, Numbered, numberedAt, familyWiring}
+use Rattle.rules.specs.Nets.Trees.{EachOnce}
+use Rattle.rules.specs.Nets.Wirings.{Wiring, input, gate, groupOf, firstInput}
+use Rattle.rules.specs.Sheets.SheetRules.{Distinct}
+use Rattle.rules.specs.Nets.SettledLaws.{MayBeA}
 use Rattle.laws.specs.Lists.Totals.{before, before-below, numbered-before, Placed, numbered-placed, those-range-distinct}
 use Rattle.trees.specs.Trees.Trees.{WiringOf}
-use Rattle.rules.specs.Nets.Trees.{EachOnce}
 use Rattle.trees.specs.Groups.Members.{size-single, size-one, size-join, size-pos, rest-apart}
 use Rattle.trees.specs.Filling.Carried.{first-single}
 use Rattle.trees.specs.Trees.Wirings.{group-below, group-some}
@@ -156,27 +156,24 @@ module _ (n : ℕ) (marks : List ℕ) where
   -- Each number below the count gives a wiring that counts, and is that wiring's number.
   pub wiring-numbered : (fuel g r : ℕ) → g < 2 ^ n → size n g ≤ fuel → r < groupTrees n marks g → HasNumber g r (wired fuel g r)
   wiring-numbered zero g r g< enough h = absurd (omega (arith, size-pos n g g< (counted-some n marks g g< (omega arith))))
-  wiring-numbered (suc fuel) g r g< enough h =
-      go (ℕ-discrete (size n g) 1) (λ g r. wiring-numbered fuel g r)
-    where
-      go : Dec (size n g ≡ 1) → ((g r : ℕ) → g < 2 ^ n → size n g ≤ fuel → r < groupTrees n marks g → HasNumber g r (wired fuel g r))
-          → HasNumber g r (wired (suc fuel) g r)
-      go (yes one) below = rw (wired-single (suc fuel) g r one) (single-numbered g r g< one h)
-      go (no several) below =
-          let two = counted-two n marks g g< (omega arith) in
-          let placed = number-split g r g< several h in
-          let at : Numbered = numberedAt (splitCounted n marks g) (splitsOf n marks g) r in
-          let a : ℕ = at .part in
-          let split = placed .split in
-          let sizes = split-sizes g a g< split in
-          let left = below a (at .number / groupTrees n marks (g - a)) (split-a-below g a g< split) (omega arith) (placed .left) in
-          let right = below (g - a) (at .number % groupTrees n marks (g - a)) (split-b-below g a g< split) (omega arith) (placed .right) in
-          rw (wired-several fuel g r several) (record {
-            family = join-family g a g< split two _ _ (left .family) (right .family);
-            number =
-                join-number g a g< split _ _ (left .family .of .1) (right .family .of .1)
-                ∙ rw (left .number, right .number, div-add-mod') (placed .again);
-          })
+  wiring-numbered (suc fuel) g r g< enough h = elim (ℕ-discrete (size n g) 1) [
+    | yes one ↦ rw (wired-single (suc fuel) g r one) (single-numbered g r g< one h)
+    | no several ↦
+        let two = counted-two n marks g g< (omega arith) in
+        let placed = number-split g r g< several h in
+        let at : Numbered = numberedAt (splitCounted n marks g) (splitsOf n marks g) r in
+        let a : ℕ = at .part in
+        let split = placed .split in
+        let sizes = split-sizes g a g< split in
+        let left = wiring-numbered fuel a (at .number / groupTrees n marks (g - a)) (split-a-below g a g< split) (omega arith) (placed .left) in
+        let right = wiring-numbered fuel (g - a) (at .number % groupTrees n marks (g - a)) (split-b-below g a g< split) (omega arith) (placed .right) in
+        rw (wired-several fuel g r several) (record {
+          family = join-family g a g< split two _ _ (left .family) (right .family);
+          number =
+              join-number g a g< split _ _ (left .family .of .1) (right .family .of .1)
+              ∙ rw (left .number, right .number, div-add-mod') (placed .again);
+        })
+  ]
 
   -- ---- from a wiring to its number
 

@@ -3,14 +3,14 @@
 -- Assumes nothing.
 use Rattle.laws.specs.Prelude.{ℕ, _<_, _≤_, _+_, _-_, _^_, suc, _*_, zero, _%_, _/_, _≡_, _∙_, sym, ap, refl, ap₂, _≢_, true, false, Bool, _&&_, not, cond}
 use Rattle.laws.specs.Prelude.{_||_, and-false, and-true, List, [], _∷_, map, zero-add, add-zero, mul-le-mul, decLt, ℕ-discrete, arith, ltb, leb, length}
-use Rattle.laws.specs.Prelude.{List·getD-eq-default, leb-true, ltb-true}
-use Rattle.rules.specs.Lists.{range, all, those, total}
-use Rattle.rules.specs.Limits.{mostInputs}
+use Rattle.laws.specs.Prelude.{List·getD-eq-default, leb-true, ltb-true, by-cases, test-cases}
 use Rattle.rules.specs.Groups.Groups.{member, size}
 use Rattle.rules.specs.Groups.Marks.{inside}
+use Rattle.rules.specs.Limits.{mostInputs}
+use Rattle.rules.specs.Lists.{range, all, those, total}
+use Rattle.rules.specs.Nets.Family.{splitsOf, splitCount, countsOf}
 use Rattle.rules.specs.Nets.Wirings.{firstInput}
 use Rattle.rules.specs.Nets.SettledLaws.{MayBeA}
-use Rattle.rules.specs.Nets.Family.{splitsOf, splitCount, countsOf}
 use Rattle.laws.specs.Lists.Tests.{oneWhere, all-cons, all-mem}
 use Rattle.laws.specs.Lists.Ranges.{range-shift, mem-range}
 use Rattle.laws.specs.Lists.Sums.{sumTo, sum-same, sum-both, sum-pairs, sum-more, total-sum}
@@ -124,20 +124,17 @@ module _ (n g : ℕ) (h : ℕ → ℕ) (b : ℕ) where
 -- the sum over those is the sum over all subsets of the other members; A has one more
 pub over-firsts : (n g : ℕ) (h : ℕ → ℕ) → g < 2 ^ n → 0 < g → sumTo (inFirst n g h) (2 ^ n) ≡ overSets (size n g - 1) (λ j. h (suc j))
 over-firsts zero g h g< some = absurd (omega arith)
-over-firsts (suc n) g h g< some = rw (twice, sum-pairs) (go (member 0 g) refl (over-firsts n (g / 2) h (omega arith)))
-  where
-    go : (t : Bool) → member 0 g ≡ t → (0 < g / 2 → sumTo (inFirst n (g / 2) h) (2 ^ n) ≡ overSets (size n (g / 2) - 1) (λ j. h (suc j)))
-        → sumTo (λ b. inFirst (suc n) g h (b + b) + inFirst (suc n) g h (suc (b + b))) (2 ^ n) ≡ overSets (size (suc n) g - 1) (λ j. h (suc j))
-    go true e below =
-        let low : g % 2 ≡ 1 = low-bit g ∙ ap oneWhere e in
-        let others : size (suc n) g - 1 ≡ size n (g / 2) = omega (arith, size-suc n g) in
-        sum-same _ (inPart n (g / 2) (λ j. h (suc j))) (2 ^ n) (λ b l. ap₂ _+_ (first-odd-even n g h b e) (first-odd-odd n g h b e) ∙ zero-add _)
-        ∙ over-parts n (g / 2) (λ j. h (suc j)) ∙ rw others
-    go false e below =
-        let low : g % 2 ≡ 0 = low-bit g ∙ ap oneWhere e in
-        let same : size (suc n) g ≡ size n (g / 2) = omega (arith, size-suc n g) in
-        sum-same _ (inFirst n (g / 2) h) (2 ^ n) (λ b l. ap₂ _+_ (first-even-even n g h b e) (first-even-odd n g h b e) ∙ add-zero _)
-        ∙ below (omega arith) ∙ rw same
+over-firsts (suc n) g h g< some = rw (twice, sum-pairs) (test-cases (member 0 g)
+    (λ e.
+    let low : g % 2 ≡ 1 = low-bit g ∙ ap oneWhere e in
+    let others : size (suc n) g - 1 ≡ size n (g / 2) = omega (arith, size-suc n g) in
+    sum-same _ (inPart n (g / 2) (λ j. h (suc j))) (2 ^ n) (λ b l. ap₂ _+_ (first-odd-even n g h b e) (first-odd-odd n g h b e) ∙ zero-add _)
+    ∙ over-parts n (g / 2) (λ j. h (suc j)) ∙ rw others)
+    (λ e.
+    let low : g % 2 ≡ 0 = low-bit g ∙ ap oneWhere e in
+    let same : size (suc n) g ≡ size n (g / 2) = omega (arith, size-suc n g) in
+    sum-same _ (inFirst n (g / 2) h) (2 ^ n) (λ b l. ap₂ _+_ (first-even-even n g h b e) (first-even-odd n g h b e) ∙ add-zero _)
+    ∙ over-firsts n (g / 2) h (omega arith) (omega arith) ∙ rw same))
 
 -- ---- the bound
 
@@ -196,11 +193,9 @@ module _ (n : ℕ) (marks : List ℕ) where
 
   -- a group of k members has at most (2k − 3)!! trees, for k up to the limit
   bounded : (k g : ℕ) → k ≤ mostInputs → g < 2 ^ n → size n g ≤ k → groupTrees n marks g ≤ treesOn (size n g)
-  bounded zero g k≤ g< small = go (decLt 0 (groupTrees n marks g))
-    where
-      go : Dec (0 < groupTrees n marks g) → groupTrees n marks g ≤ treesOn (size n g)
-      go (yes some) = absurd (omega (arith, size-pos n g g< (counted-some n marks g g< some)))
-      go (no none) = omega arith
+  bounded zero g k≤ g< small = by-cases (decLt 0 (groupTrees n marks g))
+      (λ some. absurd (omega (arith, size-pos n g g< (counted-some n marks g g< some))))
+      (λ none. omega arith)
   bounded (suc k) g k≤ g< small = go (decLt 0 (groupTrees n marks g)) (ℕ-discrete (size n g) 1) (λ a. bounded k a (omega arith))
     where
       go : Dec (0 < groupTrees n marks g) → Dec (size n g ≡ 1) → ((a : ℕ) → a < 2 ^ n → size n a ≤ k → groupTrees n marks a ≤ treesOn (size n a))
@@ -218,14 +213,13 @@ module _ (n : ℕ) (marks : List ℕ) where
 
   -- .. which is less than 2 to the 64.
   pub group-trees-fit : n ≤ mostInputs → (g : ℕ) → groupTrees n marks g < 2 ^ 64
-  group-trees-fit n≤ g = go (decLt g (2 ^ n))
-    where
-      go : Dec (g < 2 ^ n) → groupTrees n marks g < 2 ^ 64
-      go (yes g<) =
-          let fits : treesOn (size n g) < 2 ^ 64 =
-          ltb-true _ _ (all-mem (λ k. ltb (treesOn k) (2 ^ 64)) (mem-range 0 (mostInputs + 1) (size n g) (omega arith) (omega (arith, size-le n g)))
-          trees-fit) in
-          omega (arith, count-bound n≤ g g<)
-      go (no past) =
-          let end : length (countsOf n marks) ≤ g = omega (arith, counts-length n marks) in
-          rw (List·getD-eq-default (countsOf n marks) 0 end) (omega arith)
+  group-trees-fit n≤ g = elim (decLt g (2 ^ n)) [
+    | yes g< ↦
+        let fits : treesOn (size n g) < 2 ^ 64 =
+        ltb-true _ _ (all-mem (λ k. ltb (treesOn k) (2 ^ 64)) (mem-range 0 (mostInputs + 1) (size n g) (omega arith) (omega (arith, size-le n g)))
+        trees-fit) in
+        omega (arith, count-bound n≤ g g<)
+    | no past ↦
+        let end : length (countsOf n marks) ≤ g = omega (arith, counts-length n marks) in
+        rw (List·getD-eq-default (countsOf n marks) 0 end) (omega arith)
+  ]

@@ -1,13 +1,13 @@
 -- The computed list of counts: a group's count comes from its splits, and a split's from its two groups.
 -- Assumes nothing.
-use Rattle.laws.specs.Prelude.{ℕ, _<_, _≤_, _+_, _-_, _^_, suc, zero, _≡_, _∙_, sym, ap, refl, _≢_, true, false, Bool, and-eq-true-iff, List, [], _++_}
-use Rattle.laws.specs.Prelude.{map, List·Memᴰ, add-one, ℕ-discrete, arith, eqb, length, length-append, List·getD-append, getD-at, ne-eqb}
-use Rattle.rules.specs.Lists.{range, those, total}
+use Rattle.laws.specs.Prelude.{ℕ, _<_, _≤_, _+_, _-_, _^_, suc, zero, _≡_, _∙_, sym, ap, refl, _≢_, true, false, Bool, and-eq-true-iff, List, [], _++_, map}
+use Rattle.laws.specs.Prelude.{List·Memᴰ, add-one, ℕ-discrete, arith, eqb, length, length-append, List·getD-append, getD-at, ne-eqb, by-cases}
 use Rattle.rules.specs.Groups.Groups.{member, size}
 use Rattle.rules.specs.Groups.Marks.{markIn, partsAt}
+use Rattle.rules.specs.Lists.{range, those, total}
+use Rattle.rules.specs.Nets.Family.{splitsOf, countIn, splitCount, countOf, countsBelow, countsOf}
 use Rattle.rules.specs.Nets.Wirings.{firstInput}
 use Rattle.rules.specs.Nets.SettledLaws.{MayBeA}
-use Rattle.rules.specs.Nets.Family.{splitsOf, countIn, splitCount, countOf, countsBelow, countsOf}
 use Rattle.laws.specs.Lists.Ranges.{range-append, mem-range, range-mem}
 use Rattle.laws.specs.Lists.Finds.{those-mem}
 use Rattle.laws.specs.Lists.Totals.{total-parts, total-most, total-same, those-append}
@@ -77,12 +77,9 @@ module _ (n : ℕ) (marks : List ℕ) where
   count-below : (k g : ℕ) → g < k → countIn (countsBelow n marks k) g ≡ countOf n marks (countsBelow n marks g) g
   unfolding countsBelow
   count-below zero g h = absurd (omega arith)
-  count-below (suc k) g h = go (ℕ-discrete g k) (count-below k g)
-    where
-      go : Dec (g ≡ k) → (g < k → countIn (countsBelow n marks k) g ≡ countOf n marks (countsBelow n marks g) g)
-          → countIn (countsBelow n marks (suc k)) g ≡ countOf n marks (countsBelow n marks g) g
-      go (yes e) below = rw e (getD-at (countsBelow n marks k) _ [] 0 k (counts-below-length k))
-      go (no ne) below = List·getD-append (countsBelow n marks k) _ 0 g (rw (counts-below-length k) (omega arith)) ∙ below (omega arith)
+  count-below (suc k) g h = by-cases (ℕ-discrete g k)
+      (λ e. rw e (getD-at (countsBelow n marks k) _ [] 0 k (counts-below-length k)))
+      (λ ne. List·getD-append (countsBelow n marks k) _ 0 g (rw (counts-below-length k) (omega arith)) ∙ count-below k g (omega arith))
 
   -- the count of a group
   abbrev pub groupTrees : ℕ → ℕ
@@ -120,11 +117,8 @@ module _ (n : ℕ) (marks : List ℕ) where
 
     -- a group that has a tree has mark 2, ..
     pub counted-two : 0 < groupTrees g → markIn marks g ≡ 2
-    counted-two some = go (ℕ-discrete (markIn marks g) 2)
-      where
-        go : Dec (markIn marks g ≡ 2) → markIn marks g ≡ 2
-        go (yes two) = two
-        go (no other) = absurd (omega (arith, no-parts-count other))
+    counted-two some =
+        by-cases (ℕ-discrete (markIn marks g) 2) (λ two. two) (λ other. absurd (omega (arith, no-parts-count other)))
 
   -- .. and is not empty
   pub counted-some : (g : ℕ) → g < 2 ^ n → 0 < groupTrees g → 0 < g

@@ -4,16 +4,16 @@
 -- The count is 0 exactly if no net computes the table, whatever its leaves.
 -- Assumes nothing.
 use Rattle.laws.specs.Prelude.{ℕ, _<_, _^_, _≡_, _∙_, sym, ap, subst, subst⁻¹, _↔_, List, List·Memᴰ}
-use Rattle.rules.specs.Sheets.Sheets.{Gate}
 use Rattle.rules.specs.Groups.Marks.{marksOf}
-use Rattle.rules.specs.Nets.Wirings.{Wiring, groupOf, linksOf}
+use Rattle.rules.specs.Nets.Family.{treeCount, familyGates, gateGroups, SameWiring}
 use Rattle.rules.specs.Nets.Filling.{filled}
 use Rattle.rules.specs.Nets.Leaves.{leavesOf}
 use Rattle.rules.specs.Nets.Settled.{settledGates}
-use Rattle.rules.specs.Nets.Family.{treeCount, familyGates, gateGroups, SameWiring}
-use Rattle.rules.specs.Sheets.SheetRules.{IsNet}
-use Rattle.trees.specs.Trees.Trees.{EachGate}
 use Rattle.rules.specs.Nets.Trees.{Computes, TreeExists, UsesJust}
+use Rattle.rules.specs.Nets.Wirings.{Wiring, groupOf, linksOf}
+use Rattle.rules.specs.Sheets.SheetRules.{IsNet}
+use Rattle.rules.specs.Sheets.Sheets.{Gate}
+use Rattle.trees.specs.Trees.Trees.{EachGate}
 use Rattle.trees.specs.Groups.Classes.{Few}
 use Rattle.trees.specs.Trees.NetTree.{net-tree, netWiring, net-uses, net-group}
 use Rattle.trees.specs.Leaves.LeafGroup.{leaves-below, leaves-hold, leaves-several}

@@ -5,12 +5,12 @@ use Rattle.laws.specs.Prelude.{ℕ, _<_, _-_, _^_, suc, zero, _≡_, _∙_, sym
 use Rattle.laws.specs.Prelude.{ne-eqb}
 use Rattle.rules.specs.Groups.Groups.{size}
 use Rattle.rules.specs.Groups.Marks.{marksOf}
-use Rattle.rules.specs.Nets.Wirings.{Wiring, input, gate, groupOf, firstInput, wiringBy}
-use Rattle.rules.specs.Nets.Settled.{splitOf, settledWiring}
 use Rattle.rules.specs.Nets.Family.{splitsOf, splitCount, numberedAt, familyWiring}
+use Rattle.rules.specs.Nets.Settled.{splitOf, settledWiring}
+use Rattle.rules.specs.Nets.Trees.{EachOnce}
+use Rattle.rules.specs.Nets.Wirings.{Wiring, input, gate, groupOf, firstInput, wiringBy}
 use Rattle.laws.specs.Lists.Totals.{numbered-first}
 use Rattle.trees.specs.Trees.Trees.{WiringOf, EachGate}
-use Rattle.rules.specs.Nets.Trees.{EachOnce}
 use Rattle.trees.specs.Groups.Members.{size-le}
 use Rattle.trees.specs.Groups.Classes.{Few}
 use Rattle.trees.specs.Trees.Wirings.{group-below}
@@ -119,18 +119,15 @@ module _ (m n : ℕ) (pos : 0 < m) (f : ℕ → ℕ) where
   zero-settled : (fuel g : ℕ) → g < 2 ^ n → marked m n pos f g ≡ 2 → wired n (marksOf m n f) fuel g 0 ≡ wiringBy n (splitOf n (marksOf m n f)) fuel g
   unfolding familyWiring wiringBy
   zero-settled zero g g< two = refl
-  zero-settled (suc fuel) g g< two = go (ℕ-discrete (size n g) 1) (zero-settled fuel)
-    where
-      go : Dec (size n g ≡ 1)
-          → ((g : ℕ) → g < 2 ^ n → marked m n pos f g ≡ 2 → wired n (marksOf m n f) fuel g 0 ≡ wiringBy n (splitOf n (marksOf m n f)) fuel g)
-          → wired n (marksOf m n f) (suc fuel) g 0 ≡ wiringBy n (splitOf n (marksOf m n f)) (suc fuel) g
-      go (yes one) below = wired-single n (marksOf m n f) (suc fuel) g 0 one ∙ sym (settled-single (suc fuel) g one)
-      go (no several) below =
-          let half = split-two m n pos f g g< two several in
-          wired-several n (marksOf m n f) fuel g 0 several
-          ∙ rw (first-split g g< two several, zero-div, zero-mod)
-          (ap₂ gate (below _ (omega (arith, half .less)) (half .two-a)) (below _ (omega arith) (half .two-b)))
-          ∙ sym (settled-several fuel g several)
+  zero-settled (suc fuel) g g< two = elim (ℕ-discrete (size n g) 1) [
+    | yes one ↦ wired-single n (marksOf m n f) (suc fuel) g 0 one ∙ sym (settled-single (suc fuel) g one)
+    | no several ↦
+        let half = split-two m n pos f g g< two several in
+        wired-several n (marksOf m n f) fuel g 0 several
+        ∙ rw (first-split g g< two several, zero-div, zero-mod)
+        (ap₂ gate (zero-settled fuel _ (omega (arith, half .less)) (half .two-a)) (zero-settled fuel _ (omega arith) (half .two-b)))
+        ∙ sym (settled-several fuel g several)
+  ]
 
   -- Number 0 is the settled wiring.
   pub number-zero : (g : ℕ) → g < 2 ^ n → marked m n pos f g ≡ 2 → wiringNumbered g 0 ≡ settledWiring n (marksOf m n f) g

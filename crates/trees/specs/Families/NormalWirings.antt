@@ -213,11 +213,10 @@ module _ (n : ℕ) where
 -- puts the side with the first-listed input left at each gate
 unfoldable pub normal : ℕ → Wiring → Wiring
 normal n (input i) = input i
-normal n (gate a b) =
-    elim (member (firstInput n (groupOf a + groupOf b)) (groupOf a)) [
-      | true ↦ gate (normal n a) (normal n b)
-      | false ↦ gate (normal n b) (normal n a)
-    ]
+normal n (gate a b) = elim (member (firstInput n (groupOf a + groupOf b)) (groupOf a)) [
+  | true ↦ gate (normal n a) (normal n b)
+  | false ↦ gate (normal n b) (normal n a)
+]
 
 pub turned-back : {w v : Wiring} → Turned w v → Turned v w
 turned-back same-input = same-input

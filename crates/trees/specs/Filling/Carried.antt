@@ -1,13 +1,13 @@
 -- What the wire of a group carries: its only input's level, or its class. It is below m if the group has at most m classes,
 -- depends only on the levels of the group's members, and determines the ink.
 -- Assumes nothing.
-use Rattle.laws.specs.Prelude.{ℕ, _<_, _^_, _≡_, _∙_, sym, ap, refl, subst, subst⁻¹, _≢_, true, false, Bool, lt-of-lt-of-le, eqb, eq-eqb, eqb-true, ne-eqb}
-use Rattle.laws.specs.Prelude.{eqb-false, pow-pos}
-use Rattle.rules.specs.Sheets.Sheets.{level}
+use Rattle.laws.specs.Prelude.{ℕ, _<_, _^_, _≡_, _∙_, sym, ap, refl, subst, subst⁻¹, _≢_, lt-of-lt-of-le, eqb, eq-eqb, eqb-true, ne-eqb, eqb-false, pow-pos}
+use Rattle.laws.specs.Prelude.{test-cases}
 use Rattle.rules.specs.Groups.Groups.{size, part}
-use Rattle.rules.specs.Nets.Wirings.{firstInput}
 use Rattle.rules.specs.Nets.Filling.{classNumber, carried}
-use Rattle.trees.specs.Trees.Trees.{Alike, Tells}
+use Rattle.rules.specs.Nets.Wirings.{firstInput}
+use Rattle.rules.specs.Sheets.Sheets.{level}
+use Rattle.trees.specs.Trees.Trees.{Tells}
 use Rattle.trees.specs.Groups.Members.{member-single, single-below, size-single, size-one, first-member}
 use Rattle.trees.specs.Groups.Levels.{level-below, level-part-in, part-ext}
 use Rattle.trees.specs.Groups.Alike.{alike-part}
@@ -25,8 +25,7 @@ module _ (m n : ℕ) (pos : 0 < m) where
 
   -- and the level determines it
   level-single : (i p q : ℕ) → level m n p i ≡ level m n q i → part m n (2 ^ i) p ≡ part m n (2 ^ i) q
-  level-single i p q e =
-      part-ext m n pos (2 ^ i) p q (λ j h k. rw (eqb-true j i (sym (member-single j i) ∙ k)) e)
+  level-single i p q e = part-ext m n pos (2 ^ i) p q (λ j h k. rw (eqb-true j i (sym (member-single j i) ∙ k)) e)
 
   -- so the group has at most m classes
   pub single-few : (f : ℕ → ℕ) (i : ℕ) → i < n → Few m n f (2 ^ i)
@@ -59,39 +58,33 @@ module _ (m n : ℕ) (f : ℕ → ℕ) where
 module _ (m n : ℕ) (pos : 0 < m) (f : ℕ → ℕ) (g : ℕ) (g< : g < 2 ^ n) where
   -- it is below m
   pub carried-below : Few m n f g → (p : ℕ) → carried m n f g p < m
-  carried-below few p = go (eqb (size n g) 1) refl
-    where
-      go : (b : Bool) → eqb (size n g) 1 ≡ b → carried m n f g p < m
-      go true one = rw (carried-single m n f g (eqb-true (size n g) 1 one) p) (level-below m n pos p (firstInput n g))
-      go false several = rw (carried-several m n f g (eqb-false (size n g) 1 several) p) (lt-of-lt-of-le (class-below m n pos f g g< p) few)
+  carried-below few p = test-cases (eqb (size n g) 1)
+      (λ one. rw (carried-single m n f g (eqb-true (size n g) 1 one) p) (level-below m n pos p (firstInput n g)))
+      (λ several. rw (carried-several m n f g (eqb-false (size n g) 1 several) p) (lt-of-lt-of-le (class-below m n pos f g g< p) few))
 
   -- it determines the ink, given the other inputs
   pub carried-tells : Tells m n f g (carried m n f g)
-  carried-tells p q e = go (eqb (size n g) 1) refl
-    where
-      go : (b : Bool) → eqb (size n g) 1 ≡ b → Alike m n f g p q
-      go true is =
-          let one = eqb-true (size n g) 1 is in
-          let same = sym (carried-single m n f g one p) ∙ e ∙ carried-single m n f g one q in
-          alike-part m n pos f g p q
-          (subst⁻¹ (λ (h : ℕ). part m n h p ≡ part m n h q) (size-one n g g< one .1) (level-single m n pos (firstInput n g) p q same))
-      go false is =
-          let several = eqb-false (size n g) 1 is in
-          class-alike m n pos f g g< p q (sym (carried-several m n f g several p) ∙ e ∙ carried-several m n f g several q)
+  carried-tells p q e = test-cases (eqb (size n g) 1)
+      (λ is.
+      let one = eqb-true (size n g) 1 is in
+      let same = sym (carried-single m n f g one p) ∙ e ∙ carried-single m n f g one q in
+      alike-part m n pos f g p q
+      (subst⁻¹ (λ (h : ℕ). part m n h p ≡ part m n h q) (size-one n g g< one .1) (level-single m n pos (firstInput n g) p q same)))
+      (λ is.
+      let several = eqb-false (size n g) 1 is in
+      class-alike m n pos f g g< p q (sym (carried-several m n f g several p) ∙ e ∙ carried-several m n f g several q))
 
   -- it depends only on what the group is given
   pub carried-part : (p q : ℕ) → part m n g p ≡ part m n g q → carried m n f g p ≡ carried m n f g q
-  carried-part p q e = go (eqb (size n g) 1) refl
-    where
-      go : (b : Bool) → eqb (size n g) 1 ≡ b → carried m n f g p ≡ carried m n f g q
-      go true is =
-          let one = eqb-true (size n g) 1 is in
-          let first = size-one n g g< one in
-          carried-single m n f g one p
-          ∙ single-level m n pos (firstInput n g) p q (first .0) (subst (λ (h : ℕ). part m n h p ≡ part m n h q) (first .1) e)
-          ∙ sym (carried-single m n f g one q)
-      go false is =
-          let several = eqb-false (size n g) 1 is in
-          carried-several m n f g several p
-          ∙ alike-class m n pos f g g< p q (alike-part m n pos f g p q e)
-          ∙ sym (carried-several m n f g several q)
+  carried-part p q e = test-cases (eqb (size n g) 1)
+      (λ is.
+      let one = eqb-true (size n g) 1 is in
+      let first = size-one n g g< one in
+      carried-single m n f g one p
+      ∙ single-level m n pos (firstInput n g) p q (first .0) (subst (λ (h : ℕ). part m n h p ≡ part m n h q) (first .1) e)
+      ∙ sym (carried-single m n f g one q))
+      (λ is.
+      let several = eqb-false (size n g) 1 is in
+      carried-several m n f g several p
+      ∙ alike-class m n pos f g g< p q (alike-part m n pos f g p q e)
+      ∙ sym (carried-several m n f g several q))

@@ -3,10 +3,10 @@
 -- Assumes nothing.
 use Rattle.laws.specs.Prelude.{ℕ, _<_, _+_, _-_, _≡_, _∙_, sym, ap, false, Bool, List, [], _∷_, _++_, zero-add, decLt, arith, eqb·suc-zero, length, getD}
 use Rattle.laws.specs.Prelude.{List·getD-append, getD-append-seam}
-use Rattle.rules.specs.Sheets.Sheets.{Gate, level, levelsAt}
+use Rattle.rules.specs.Nets.Filling.{carried, given, gateDigits, inputGroups, filledFrom}
 use Rattle.rules.specs.Nets.Value.{gateValue}
 use Rattle.rules.specs.Nets.Wirings.{Link}
-use Rattle.rules.specs.Nets.Filling.{carried, given, gateDigits, inputGroups, filledFrom}
+use Rattle.rules.specs.Sheets.Sheets.{Gate, level, levelsAt}
 use Rattle.laws.specs.Lists.Places.{length-snoc}
 use Rattle.laws.specs.Lists.Ranges.{map-range-length, map-range-at}
 use Rattle.trees.specs.Filling.Carried.{carried-several, carried-input}
@@ -58,11 +58,10 @@ module _ (m n : ℕ) (pos : 0 < m) (f : ℕ → ℕ) (p : ℕ) where
 
   -- one more reference
   carries-snoc : (groups values : List ℕ) (g v : ℕ) → Carries groups values → v ≡ carried m n f g p → Carries (groups ++ (g ∷ [])) (values ++ (v ∷ []))
-  carries-snoc groups values g v carries is =
-      record {
-        count = omega (arith, length-snoc groups g, length-snoc values v, carries .count);
-        each = λ r h. go r h (decLt r (length groups));
-      }
+  carries-snoc groups values g v carries is = record {
+    count = omega (arith, length-snoc groups g, length-snoc values v, carries .count);
+    each = λ r h. go r h (decLt r (length groups));
+  }
     where
       go : (r : ℕ) → r < length (groups ++ (g ∷ [])) → Dec (r < length groups) → getD (values ++ (v ∷ [])) r 0 ≡ carried m n f (getD (groups ++ (g ∷ [])) r 0) p
       go r h (yes k) =

@@ -5,9 +5,9 @@ use Rattle.laws.specs.Prelude.{ℕ, _<_, _+_, _^_, _*_, _%_, _/_, _≡_, _∙_,
 use Rattle.laws.specs.Prelude.{div-lt-iff-lt-mul, div-add-mod', arith, length, getD, ext-getD}
 use Rattle.rules.specs.Groups.Groups.{part, points, size}
 use Rattle.rules.specs.Nets.Filling.{carried, given, gateDigits}
+use Rattle.rules.specs.Nets.Trees.{Apart}
 use Rattle.rules.specs.Sheets.SheetRules.{GateTable}
 use Rattle.trees.specs.Trees.Trees.{Alike}
-use Rattle.rules.specs.Nets.Trees.{Apart}
 use Rattle.trees.specs.Groups.Members.{join-below, size-join, size-pos}
 use Rattle.trees.specs.Groups.Levels.{part-below, part-part, mix-zero}
 use Rattle.trees.specs.Groups.Points.{part-in-points}
@@ -87,18 +87,17 @@ module _ (m n : ℕ) (pos : 0 < m) (f : ℕ → ℕ) (a b : ℕ) (parts : Parts 
       (λ none. absurd (none _ (some-reaches p)))
 
   pub digit-rule : (last : Bool) → DigitRule m n f last a b (gateDigits m n f last a b)
-  digit-rule last =
-      record {
-        count = digits-count m n f last a b;
-        reached = λ u v p left right.
-            ap₂ (λ (s t : ℕ). getD (gateDigits m n f last a b) (s * m + t) 0) (sym left) (sym right) ∙ gate-digit last p;
-        free = λ u v u< v< none.
-            digits-have m n f last a b (λ x. x ≡ 0) u v u< v<
-            (λ q d e.
-            let own = part-part m n pos (a + b) q in
-            absurd (none (part m n (a + b) q) (part-below m n pos (a + b) q) (left-carries _ q own ∙ d) (right-carries _ q own ∙ e)))
-            (λ _. refl);
-      }
+  digit-rule last = record {
+    count = digits-count m n f last a b;
+    reached = λ u v p left right.
+        ap₂ (λ (s t : ℕ). getD (gateDigits m n f last a b) (s * m + t) 0) (sym left) (sym right) ∙ gate-digit last p;
+    free = λ u v u< v< none.
+        digits-have m n f last a b (λ x. x ≡ 0) u v u< v<
+        (λ q d e.
+        let own = part-part m n pos (a + b) q in
+        absurd (none (part m n (a + b) q) (part-below m n pos (a + b) q) (left-carries _ q own ∙ d) (right-carries _ q own ∙ e)))
+        (λ _. refl);
+  }
 
   -- and no other digits follow the rule
   pub digit-rule-only : (last : Bool) (digits : List ℕ) → DigitRule m n f last a b digits → digits ≡ gateDigits m n f last a b

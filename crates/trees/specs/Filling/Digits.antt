@@ -1,9 +1,9 @@
 -- The digits of a gate by the class rule, over any two groups: how many, and what each is.
 -- Assumes nothing.
-use Rattle.laws.specs.Prelude.{ℕ, _<_, _+_, _*_, _%_, _/_, _≡_, _∙_, sym, ap, refl, subst, _⊎_, inl, inr, true, false, Bool, _&&_, false≢true, List, []}
-use Rattle.laws.specs.Prelude.{_∷_, map, List·Memᴰ, List·Memᴰ·not-nil, List·Memᴰ·cases-cons, mod-lt, div-lt-iff-lt-mul, div-add-mod', eqb, length, getD}
-use Rattle.rules.specs.Lists.{find}
+use Rattle.laws.specs.Prelude.{ℕ, _<_, _+_, _*_, _%_, _/_, _≡_, _∙_, sym, ap, subst, inl, inr, false, Bool, _&&_, false≢true, List, [], _∷_, map, List·Memᴰ}
+use Rattle.laws.specs.Prelude.{List·Memᴰ·not-nil, List·Memᴰ·cases-cons, mod-lt, div-lt-iff-lt-mul, div-add-mod', eqb, length, getD, test-cases}
 use Rattle.rules.specs.Groups.Groups.{points}
+use Rattle.rules.specs.Lists.{find}
 use Rattle.rules.specs.Nets.Filling.{carried, given, FillingReached, digitAt, gateDigits}
 use Rattle.laws.specs.Lists.Tests.{both-eqb}
 use Rattle.laws.specs.Lists.Rows.{grid-length, grid-at}
@@ -20,24 +20,19 @@ module _ (left right : ℕ → ℕ) (u v : ℕ) where
   -- if the first does not reach a digit, only the others can
   reached-later : (x q : ℕ) (ps : List ℕ) → (eqb (left x) u && eqb (right x) v) ≡ false → Reaches left right u v (x ∷ ps) q
       → Reaches left right u v ps q
-  reached-later x q ps e (m, l, r) = step (List·Memᴰ·cases-cons m)
-    where
-      step : (q ≡ x) ⊎ List·Memᴰ q ps → Reaches left right u v ps q
-      step (inl s) = absurd (false≢true (sym e ∙ both-eqb (left x) u (right x) v .1 (sym (ap left s) ∙ l, sym (ap right s) ∙ r)))
-      step (inr k) = (k, l, r)
+  reached-later x q ps e (m, l, r) = elim (List·Memᴰ·cases-cons m) [
+    | inl s ↦ absurd (false≢true (sym e ∙ both-eqb (left x) u (right x) v .1 (sym (ap left s) ∙ l, sym (ap right s) ∙ r)))
+    | inr k ↦ (k, l, r)
+  ]
 
   module _ (own : ℕ → ℕ) (P : ℕ → Type 0) (gives : (q : ℕ) → left q ≡ u → right q ≡ v → P (own q)) where
     -- what holds for every value given at (u, v), and for 0 if there is none, holds for the digit there
     digit-has : (ps : List ℕ) → (((q : ℕ) → Reaches left right u v ps q → ⊥) → P 0) → P (digitAt (map (reach left right own) ps) u v)
     unfolding digitAt find
     digit-has [] unreached = unreached (λ q r. List·Memᴰ·not-nil (r .0))
-    digit-has (x ∷ ps) unreached = step (eqb (left x) u && eqb (right x) v) refl (digit-has ps)
-      where
-        step : (t : Bool) → (eqb (left x) u && eqb (right x) v) ≡ t
-            → ((((q : ℕ) → Reaches left right u v ps q → ⊥) → P 0) → P (digitAt (map (reach left right own) ps) u v))
-            → P (digitAt (map (reach left right own) (x ∷ ps)) u v)
-        step true e rest = let b = both-eqb (left x) u (right x) v .0 e in rw (e, digitAt, find) (gives x (b .0) (b .1))
-        step false e rest = rw (e, digitAt, find) (rest (λ none. unreached (λ q r. none q (reached-later x q ps e r))))
+    digit-has (x ∷ ps) unreached = test-cases (eqb (left x) u && eqb (right x) v)
+        (λ e. let b = both-eqb (left x) u (right x) v .0 e in rw (e, digitAt, find) (gives x (b .0) (b .1)))
+        (λ e. rw (e, digitAt, find) (digit-has ps (λ none. unreached (λ q r. none q (reached-later x q ps e r)))))
 
 module _ (m n : ℕ) (f : ℕ → ℕ) (last : Bool) (a b : ℕ) where
   -- there are m·m digits

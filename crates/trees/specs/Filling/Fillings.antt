@@ -4,14 +4,14 @@
 use Rattle.laws.specs.Prelude.{ℕ, _<_, _+_, _^_, _≡_, _∙_, sym, ap, refl, ap₂, true, false, Bool, List, [], _∷_, _++_, append-assoc, append-nil, zero-add}
 use Rattle.laws.specs.Prelude.{add-zero, arith, eqb, length, getD, length-append, getD-append-seam, ne-eqb}
 use Rattle.rules.specs.Lists.{withEach}
-use Rattle.rules.specs.Sheets.Sheets.{Gate}
+use Rattle.rules.specs.Nets.Filling.{gateDigits, inputGroups, filledFrom, filled}
+use Rattle.rules.specs.Nets.Trees.{EachOnce, Filled, treeValue, UsesJust}
 use Rattle.rules.specs.Nets.Value.{value}
 use Rattle.rules.specs.Nets.Wirings.{Wiring, input, gate, groupOf, Link, gatesIn, referenceTo, linksOf}
-use Rattle.rules.specs.Nets.Filling.{gateDigits, inputGroups, filledFrom, filled}
 use Rattle.rules.specs.Sheets.SheetRules.{IsNet}
+use Rattle.rules.specs.Sheets.Sheets.{Gate}
 use Rattle.laws.specs.Lists.Ranges.{map-range-length, map-range-at}
 use Rattle.trees.specs.Trees.Trees.{EachGate, fill}
-use Rattle.rules.specs.Nets.Trees.{EachOnce, Filled, treeValue, UsesJust}
 use Rattle.laws.specs.Lists.WithEach.{with-each-append, with-each-length, with-each-earlier}
 use Rattle.trees.specs.Groups.Classes.{Few}
 use Rattle.trees.specs.Filling.DigitRule.{Parts}
@@ -33,8 +33,7 @@ withGroups groups links = withEach linkGroup groups links
 links-length : (n before : ℕ) (w : Wiring) → length (linksOf n before w) ≡ gatesIn w
 unfolding linksOf gatesIn
 links-length n before (input i) = refl
-links-length n before (gate a b) =
-    simp (length-append, links-length n before a, links-length n (before + gatesIn a) b)
+links-length n before (gate a b) = simp (length-append, links-length n before a, links-length n (before + gatesIn a) b)
 
 module _ (n : ℕ) where
   -- a gate's own line
@@ -115,9 +114,11 @@ module _ (m n : ℕ) (f : ℕ → ℕ) where
   filled-links before groups (gate a b) rest once grouped =
       ap (filledFrom m n f groups) (append-assoc (of-a ++ of-b) (own ∷ []) rest ∙ append-assoc of-a of-b (own ∷ rest))
       ∙ filled-links before groups a (of-b ++ (own ∷ rest)) (once .1) grouped
-      ∙ ap₂ (λ (last : Bool) (gates : List Gate). gateList m n f last before a ++ gates) more
+      ∙ ap₂ (λ (last : Bool) (gates : List Gate). gateList m n f last before a ++ gates)
+      (ne-eqb (length (of-b ++ (own ∷ rest))) 0 (λ e. omega (arith, length-append of-b (own ∷ rest))))
       (filled-links mid (withGroups groups of-a) b (own ∷ rest) (once .2) (grouped-after n before groups a grouped)
-      ∙ ap₂ (λ (last : Bool) (gates : List Gate). gateList m n f last mid b ++ gates) one-more own-line)
+      ∙ ap₂ (λ (last : Bool) (gates : List Gate). gateList m n f last mid b ++ gates)
+      (ne-eqb (length (own ∷ rest)) 0 (λ e. omega arith)) own-line)
       ∙ sym (append-assoc (gateList m n f false before a) (gateList m n f false mid b) (line ∷ later))
       ∙ sym (append-assoc (gateList m n f false before a ++ gateList m n f false mid b) (line ∷ []) later)
     where
@@ -138,12 +139,6 @@ module _ (m n : ℕ) (f : ℕ → ℕ) where
 
       later : List Gate
       later = filledFrom m n f (withGroups groups ((of-a ++ of-b) ++ (own ∷ []))) rest
-
-      more : eqb (length (of-b ++ (own ∷ rest))) 0 ≡ false
-      more = ne-eqb (length (of-b ++ (own ∷ rest))) 0 (λ e. omega (arith, length-append of-b (own ∷ rest)))
-
-      one-more : eqb (length (own ∷ rest)) 0 ≡ false
-      one-more = ne-eqb (length (own ∷ rest)) 0 (λ e. omega arith)
 
       own-line : filledFrom m n f (withGroups (withGroups groups of-a) of-b) (own ∷ rest) ≡ line ∷ later
       own-line =

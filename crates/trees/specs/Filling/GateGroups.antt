@@ -4,18 +4,18 @@
 use Rattle.laws.specs.Prelude.{ℕ, _<_, _≤_, _+_, _-_, _≡_, _∙_, sym, ap, refl, subst, ap₂, _↔_, ⊎-elim, true≢false, List, [], _∷_, _++_, List·Memᴰ}
 use Rattle.laws.specs.Prelude.{append-assoc, append-nil, List·Memᴰ·head, List·Memᴰ·not-nil, List·Memᴰ·append-cases, List·Memᴰ·eq-of-singleton}
 use Rattle.laws.specs.Prelude.{Memᴰ·append-right, Memᴰ·append-left, decLt, ℕ-discrete, arith, eqb, length, List·getD-append, getD-append-seam, eq-eqb}
-use Rattle.rules.specs.Lists.{any, withEach}
-use Rattle.rules.specs.Sheets.Sheets.{Gate, usedBy}
-use Rattle.rules.specs.Nets.Wirings.{Wiring, input, gate, groupOf, Link, gatesIn, linksOf}
-use Rattle.rules.specs.Nets.Filling.{inputGroups, filledFrom, filled}
-use Rattle.rules.specs.Nets.Family.{groupsFrom, gateGroups, SameWiring}
 use Rattle.rules.specs.Calls.Keeping.{linkOf}
+use Rattle.rules.specs.Lists.{any, withEach}
+use Rattle.rules.specs.Nets.Family.{groupsFrom, gateGroups, SameWiring}
+use Rattle.rules.specs.Nets.Filling.{inputGroups, filledFrom, filled}
+use Rattle.rules.specs.Nets.Trees.{Tree, leaf, wiringIn, EachOnce, Turned}
+use Rattle.rules.specs.Nets.Wirings.{Wiring, input, gate, groupOf, Link, gatesIn, linksOf}
 use Rattle.rules.specs.Sheets.SheetRules.{RefersBack, IsNet}
+use Rattle.rules.specs.Sheets.Sheets.{Gate, usedBy}
 use Rattle.laws.specs.Lists.Tests.{mem-any, two-ways}
 use Rattle.laws.specs.Lists.Places.{length-snoc}
 use Rattle.laws.specs.Lists.Distinct.{NotIn, not-in-two}
 use Rattle.laws.specs.Lists.Totals.{any-mem}
-use Rattle.rules.specs.Nets.Trees.{Tree, leaf, wiringIn, EachOnce, Turned}
 use Rattle.laws.specs.Lists.WithEach.{with-each-append, with-each-length}
 use Rattle.trees.specs.Trees.Forest.{treeAt, joinedTree, withTrees, inputTrees, inputs-length, input-at}
 use Rattle.trees.specs.Trees.Homes.{grown-inputs, grown-gates}
@@ -116,19 +116,18 @@ module _ (used : List ℕ) (forest : List Tree) (done : List ℕ) (housed : Hous
   fresh⁺ r h = not-in-two r used (g .left) (g .right) .1 (housed .fresh r h, λ e. omega arith, λ e. omega arith)
 
   listed⁺ : (r h : ℕ) → r < length forest⁺ → Joins h (wiringIn (treeAt forest⁺ r)) → List·Memᴰ h (done ++ (own ∷ []))
-  listed⁺ r h r< is = go (decLt r (length forest))
+  listed⁺ r h r< is = elim (decLt r (length forest)) [
+    | yes early ↦ Memᴰ·append-left _ (housed .listed r h early (rw (before-at r early) at is))
+    | no late ↦
+        let last : r ≡ length forest = omega (arith, length-snoc forest (joinedTree forest g)) in
+        new (rw (last, gate-at) at is)
+  ]
     where
       new : Joins h (wiringIn (joinedTree forest g)) → List·Memᴰ h (done ++ (own ∷ []))
       new is =
           ⊎-elim (λ l. Memᴰ·append-left _ (housed .listed (g .left) h left< l))
           (λ later. ⊎-elim (λ r. Memᴰ·append-left _ (housed .listed (g .right) h right< r)) (λ e. Memᴰ·append-right done (List·Memᴰ·head e)) later)
           (joins-cases h left-tree right-tree is)
-
-      go : Dec (r < length forest) → List·Memᴰ h (done ++ (own ∷ []))
-      go (yes early) = Memᴰ·append-left _ (housed .listed r h early (rw (before-at r early) at is))
-      go (no late) =
-          let last : r ≡ length forest = omega (arith, length-snoc forest (joinedTree forest g)) in
-          new (rw (last, gate-at) at is)
 
   -- the gate is the new home of what it uses
   abbrev Home⁺ : ℕ → Type 0

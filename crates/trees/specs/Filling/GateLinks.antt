@@ -1,18 +1,18 @@
 -- The links of any gate list that follows the rules of a net sheet, in its own line order and with its own sides, can be filled if each
 -- gate's group has at most m classes.
 -- Assumes nothing.
-use Rattle.laws.specs.Prelude.{ℕ, _<_, _+_, _-_, suc, _≡_, _∙_, sym, ap, subst, ap₂, subst⁻¹, List, [], _∷_, _++_, map, append-assoc, map-map, decLt}
-use Rattle.laws.specs.Prelude.{arith, length, getD, length-map, List·getD-append, getD-append-seam}
-use Rattle.rules.specs.Lists.{range, withEach}
-use Rattle.rules.specs.Sheets.Sheets.{Gate, usedBy}
-use Rattle.rules.specs.Nets.Wirings.{groupOf, Link}
-use Rattle.rules.specs.Nets.Filling.{inputGroups}
+use Rattle.laws.specs.Prelude.{ℕ, _<_, _+_, _-_, suc, _≡_, _∙_, sym, ap, subst, ap₂, subst⁻¹, List, [], _∷_, _++_, map, append-assoc, map-map, decLt, arith}
+use Rattle.laws.specs.Prelude.{length, getD, length-map, List·getD-append, getD-append-seam}
 use Rattle.rules.specs.Calls.Keeping.{linkOf, gateLinks}
+use Rattle.rules.specs.Lists.{range, withEach}
+use Rattle.rules.specs.Nets.Filling.{inputGroups}
+use Rattle.rules.specs.Nets.Trees.{Tree, leaf, wiringIn}
+use Rattle.rules.specs.Nets.Wirings.{groupOf, Link}
 use Rattle.rules.specs.Sheets.SheetRules.{RefersBack, Distinct, Tables, GateRules}
+use Rattle.rules.specs.Sheets.Sheets.{Gate, usedBy}
 use Rattle.laws.specs.Lists.Concat.{map-append}
 use Rattle.laws.specs.Lists.Distinct.{NotIn}
 use Rattle.laws.specs.Lists.Places.{length-snoc, map-at}
-use Rattle.rules.specs.Nets.Trees.{Tree, leaf, wiringIn}
 use Rattle.laws.specs.Lists.WithEach.{with-each-earlier}
 use Rattle.trees.specs.Groups.Classes.{Few}
 use Rattle.trees.specs.Filling.Carried.{single-few}
@@ -105,18 +105,14 @@ module _ (m n : ℕ) (f : ℕ → ℕ) where
         (fillable-gates gates [] (inputTrees n) (grown-inputs m n) (rw inputs-length (rules .back)) (rules .once) (rules .tables)
         (subst⁻¹ (λ (gs : List ℕ). AllFew gs (gateLinks gates)) (inputs-in n) all))
       where
-        count : length (gateLinks gates) ≡ length gates
-        count = length-map gates linkOf
-
         all : AllFew (inputGroups n) (gateLinks gates)
-        all r h = go (decLt r n)
-          where
-            go : Dec (r < n) → Few m n f (getD (withGroups (inputGroups n) (gateLinks gates)) r 0)
-            go (yes input) =
-                subst⁻¹ (Few m n f)
-                (with-each-earlier linkGroup 0 (inputGroups n) (gateLinks gates) r (omega (arith, inputs-grouped n .0)) ∙ inputs-grouped n .1 r input)
-                (single-few m n pos f r input)
-            go (no late) =
-                let place : n + (r - n) ≡ r = omega arith in
-                subst (λ (k : ℕ). Few m n f (getD (withGroups (inputGroups n) (gateLinks gates)) k 0)) place
-                (few (r - n) (omega (arith, count, inputs-grouped n .0)))
+        all r h = elim (decLt r n) [
+          | yes input ↦
+              subst⁻¹ (Few m n f)
+              (with-each-earlier linkGroup 0 (inputGroups n) (gateLinks gates) r (omega (arith, inputs-grouped n .0)) ∙ inputs-grouped n .1 r input)
+              (single-few m n pos f r input)
+          | no late ↦
+              let place : n + (r - n) ≡ r = omega arith in
+              subst (λ (k : ℕ). Few m n f (getD (withGroups (inputGroups n) (gateLinks gates)) k 0)) place
+              (few (r - n) (omega (arith, length-map gates linkOf, inputs-grouped n .0)))
+        ]

@@ -2,11 +2,11 @@
 -- (A, B), both of mark 2, A holding its first-listed input, A of lowest number."; classes are "numbered from 0 in the order in which
 -- they first appear as the group's assignments are counted, first-listed member slowest".
 -- Assumes nothing.
-use Rattle.laws.specs.Prelude.{ℕ, _<_, _≤_, _-_, _^_, _≡_, _∙_, sym, ap, _≢_, ⊎-elim, true, true≢false, and-eq-true-iff, List·Memᴰ, le-of-eq, le-of-lt}
-use Rattle.laws.specs.Prelude.{decLt, arith, length, getD}
-use Rattle.rules.specs.Lists.{firstPlace}
+use Rattle.laws.specs.Prelude.{ℕ, _<_, _≤_, _-_, _^_, _≡_, _∙_, sym, ap, _≢_, ⊎-elim, true, true≢false, and-eq-true-iff, List·Memᴰ, le-of-eq, le-of-lt, decLt}
+use Rattle.laws.specs.Prelude.{arith, length, getD}
 use Rattle.rules.specs.Groups.Groups.{size, points, alike, classes, multiplicity}
 use Rattle.rules.specs.Groups.Marks.{marksOf}
+use Rattle.rules.specs.Lists.{firstPlace}
 use Rattle.rules.specs.Nets.Settled.{splitOf}
 use Rattle.rules.specs.Nets.SettledLaws.{MayBeA, split-lowest, ByAppearance, classes-by-appearance}
 use Rattle.laws.specs.Lists.FirstPlaces.{before-first, first-passes}

@@ -2,9 +2,9 @@
 -- Assumes nothing.
 use Rattle.laws.specs.Prelude.{ℕ, _<_, _+_, _^_, _≡_, _∙_, sym, ap, refl, _∎, _≡⟨_⟩_, true, eq-eqb, eqb-true}
 use Rattle.rules.specs.Groups.Groups.{part, points, others, alike, alikeOver}
+use Rattle.rules.specs.Nets.Trees.{Apart}
 use Rattle.laws.specs.Lists.Tests.{all-mem, mem-all}
 use Rattle.trees.specs.Trees.Trees.{Alike, mix}
-use Rattle.rules.specs.Nets.Trees.{Apart}
 use Rattle.trees.specs.Groups.Levels.{mix-join, mix-swap}
 use Rattle.trees.specs.Groups.Points.{part-in-points, points-are-parts}
 

@@ -1,7 +1,7 @@
 -- A group's classes: their numbers, their count, and the two ways to bound it.
 -- Assumes nothing.
 use Rattle.laws.specs.Prelude.{ℕ, _<_, _≤_, _+_, _^_, _≡_, _∙_, sym, refl, ⊎-elim, true, true≢false, [], List·Memᴰ, List·Memᴰ·not-nil, not-suc-le-zero}
-use Rattle.laws.specs.Prelude.{lt-trans, decLt, arith, getD, eq-eqb}
+use Rattle.laws.specs.Prelude.{lt-trans, decLt, arith, getD, eq-eqb, by-cases}
 use Rattle.rules.specs.Groups.Groups.{part, points, others, alike, alikeOver, classes, multiplicity}
 use Rattle.rules.specs.Nets.Filling.{classNumber}
 use Rattle.laws.specs.Lists.Tests.{mem-all}
@@ -53,12 +53,11 @@ module _ (m n : ℕ) (pos : 0 < m) (f : ℕ → ℕ) (g : ℕ) (g< : g < 2 ^ n) 
   -- .. so two alike ones have the same place
   pub listed-once : (i j : ℕ) → i < multiplicity m n f g → j < multiplicity m n f g
       → Alike m n f g (getD (classes m n f g) i 0) (getD (classes m n f g) j 0) → i ≡ j
-  listed-once i j i< j< a = go (decLt i j) (decLt j i)
-    where
-      go : Dec (i < j) → Dec (j < i) → i ≡ j
-      go (yes h) _ = absurd (classes-differ i j h j< a)
-      go (no h) (yes k) = absurd (classes-differ j i k i< (alike-sym m n pos f g _ _ a))
-      go (no h) (no k) = omega arith
+  listed-once i j i< j< a = by-cases (decLt i j)
+      (λ h. absurd (classes-differ i j h j< a))
+      (λ h. by-cases (decLt j i)
+      (λ k. absurd (classes-differ j i k i< (alike-sym m n pos f g _ _ a)))
+      (λ k. omega arith))
 
   -- the class number of an index is a place in the list, and the entry there passes the test
   class-place : (p : ℕ) → (classNumber m n f g p < multiplicity m n f g)

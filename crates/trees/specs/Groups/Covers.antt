@@ -5,12 +5,12 @@ use Rattle.laws.specs.Prelude.{ℕ, _<_, _≤_, _+_, _-_, _^_, suc, _*_, zero, 
 use Rattle.laws.specs.Prelude.{true≢false, cond, zero-add, add-zero, zero-mul, pow-suc, pow-zero, mod-lt, div-lt-iff-lt-mul, mul-comm, mul-one, one-le-pow}
 use Rattle.laws.specs.Prelude.{le-refl, mul-assoc, add-comm, le-step, mod-eq-of-lt, mul-div-cancel, sub-self, decLt, arith, eq-eqb, ne-eqb, digits-lt}
 use Rattle.laws.specs.Prelude.{digits-mod, digits-div, sub-sub-self}
-use Rattle.rules.specs.Sheets.Sheets.{level}
 use Rattle.rules.specs.Groups.Groups.{member, part, wholeGroup, others, multiplicity}
+use Rattle.rules.specs.Nets.Trees.{Apart}
+use Rattle.rules.specs.Sheets.Sheets.{level}
 use Rattle.laws.specs.Numbers.Levels.{level-last, level-front}
 use Rattle.laws.specs.Lists.Tests.{or-false-iff}
 use Rattle.trees.specs.Trees.Trees.{Alike, mix}
-use Rattle.rules.specs.Nets.Trees.{Apart}
 use Rattle.trees.specs.Groups.Members.{member-zero, member-single, single-below, whole-below, member-join, member-others}
 use Rattle.trees.specs.Groups.Levels.{level-ext, level-part, level-part-in, level-mix, part-below, part-part, part-mix, mix-below}
 use Rattle.trees.specs.Groups.Joins.{apart-sym}
@@ -86,29 +86,27 @@ part-none m (suc n) g p none = rw (part-none m n g (p / m) (λ i h. none i (le-s
 pub part-single : (m n i p : ℕ) → i < n → part m n (2 ^ i) p ≡ level m n p i * m ^ (n - 1 - i)
 unfolding part
 part-single m zero i p h = absurd (omega arith)
-part-single m (suc n) i p h = go (decLt i n) (part-single m n i (p / m))
-  where
-    go : Dec (i < n) → (i < n → part m n (2 ^ i) (p / m) ≡ level m n (p / m) i * m ^ (n - 1 - i))
-        → part m (suc n) (2 ^ i) p ≡ level m (suc n) p i * m ^ (suc n - 1 - i)
-    go (yes less) before =
-        let next : suc n - 1 - i ≡ suc (n - 1 - i) = omega arith in
-        rw (member-single n i, ne-eqb n i (λ e. omega arith), before less, level-front m n p i less, next, pow-suc, add-zero)
-        (mul-assoc (level m n (p / m) i) (m ^ (n - 1 - i)) m)
-    go (no last) before =
-        let same : i ≡ n = omega arith in
-        let none : suc n - 1 - i ≡ 0 = omega arith in
-        rw (
-          member-single n i,
-          eq-eqb n i (sym same),
-          part-none m n (2 ^ i) (p / m) (λ j j<. member-single j i ∙ ne-eqb j i (λ e. omega arith)),
-          none,
-          same,
-          level-last m n p,
-          pow-zero,
-          mul-one,
-          zero-mul,
-          zero-add,
-        )
+part-single m (suc n) i p h = elim (decLt i n) [
+  | yes less ↦
+      let next : suc n - 1 - i ≡ suc (n - 1 - i) = omega arith in
+      rw (member-single n i, ne-eqb n i (λ e. omega arith), part-single m n i (p / m) less, level-front m n p i less, next, pow-suc, add-zero)
+      (mul-assoc (level m n (p / m) i) (m ^ (n - 1 - i)) m)
+  | no last ↦
+      let same : i ≡ n = omega arith in
+      let none : suc n - 1 - i ≡ 0 = omega arith in
+      rw (
+        member-single n i,
+        eq-eqb n i (sym same),
+        part-none m n (2 ^ i) (p / m) (λ j j<. member-single j i ∙ ne-eqb j i (λ e. omega arith)),
+        none,
+        same,
+        level-last m n p,
+        pow-zero,
+        mul-one,
+        zero-mul,
+        zero-add,
+      )
+]
 
 -- the whole group leaves no other input
 mix-whole : (m n p y : ℕ) → mix m n (wholeGroup n) p y ≡ part m n (wholeGroup n) p
@@ -126,48 +124,44 @@ module _ (m n : ℕ) (pos : 0 < m) (f : ℕ → ℕ) where
 
   -- the empty group: its one assignment
   pub empty-cover : Covers m n f 0 1 (λ _. 0)
-  empty-cover =
-      record {
-        own = λ k h. part-none m n 0 0 (λ i _. member-zero i);
-        every = λ p. (0, omega arith, alike-part m n pos f 0 p 0 (part-none m n 0 p (λ i _. member-zero i) ∙ sym (part-none m n 0 0 (λ i _. member-zero i))));
-      }
+  empty-cover = record {
+    own = λ k h. part-none m n 0 0 (λ i _. member-zero i);
+    every = λ p. (0, omega arith, alike-part m n pos f 0 p 0 (part-none m n 0 p (λ i _. member-zero i) ∙ sym (part-none m n 0 0 (λ i _. member-zero i))));
+  }
 
   -- one input: its levels times its weight
   pub input-cover : (i : ℕ) → i < n → Covers m n f (2 ^ i) m (λ l. l * m ^ (n - 1 - i))
   unfolding level
-  input-cover i h =
-      record {
-        own = λ l l<.
-            part-single m n i (l * m ^ (n - 1 - i)) h
-            ∙ ap (λ (k : ℕ). k * m ^ (n - 1 - i)) (ap (λ (k : ℕ). k % m) (mul-div-cancel l (one-le-pow (n - 1 - i) m pos)) ∙ mod-eq-of-lt l<);
-        every = λ p. (
-          level m n p i,
-          mod-lt _ pos,
-          alike-part m n pos f (2 ^ i) p _ (sym (part-part m n pos (2 ^ i) p) ∙ ap (part m n (2 ^ i)) (part-single m n i p h)),
-        );
-      }
+  input-cover i h = record {
+    own = λ l l<.
+        part-single m n i (l * m ^ (n - 1 - i)) h
+        ∙ ap (λ (k : ℕ). k * m ^ (n - 1 - i)) (ap (λ (k : ℕ). k % m) (mul-div-cancel l (one-le-pow (n - 1 - i) m pos)) ∙ mod-eq-of-lt l<);
+    every = λ p. (
+      level m n p i,
+      mod-lt _ pos,
+      alike-part m n pos f (2 ^ i) p _ (sym (part-part m n pos (2 ^ i) p) ∙ ap (part m n (2 ^ i)) (part-single m n i p h)),
+    );
+  }
 
   -- if e covers it, and every e k is alike to some h j, then h covers it
   pub covers-kept : (g c : ℕ) (e : ℕ → ℕ) (d : ℕ) (h : ℕ → ℕ) → Covers m n f g c e → ((k : ℕ) → k < d → part m n g (h k) ≡ h k)
       → ((k : ℕ) → k < c → (j : ℕ) × (j < d) × Alike m n f g (e k) (h j)) → Covers m n f g d h
-  covers-kept g c e d h cover own kept =
-      record {
-        own = own;
-        every = λ p.
-            let (k, k<, like) = cover .every p in
-            let (j, j<, kept-like) = kept k k< in
-            (j, j<, alike-trans m n pos f g p (e k) (h j) like kept-like);
-      }
+  covers-kept g c e d h cover own kept = record {
+    own = own;
+    every = λ p.
+        let (k, k<, like) = cover .every p in
+        let (j, j<, kept-like) = kept k k< in
+        (j, j<, alike-trans m n pos f g p (e k) (h j) like kept-like);
+  }
 
   -- the same assignments, given by another function
   pub covers-same : (g c : ℕ) (e h : ℕ → ℕ) → ((k : ℕ) → k < c → e k ≡ h k) → Covers m n f g c e → Covers m n f g c h
-  covers-same g c e h same cover =
-      record {
-        own = λ k k<. rw same at (cover .own k k<);
-        every = λ p.
-            let (k, k<, like) = cover .every p in
-            (k, k<, subst (Alike m n f g p) (same k k<) like);
-      }
+  covers-same g c e h same cover = record {
+    own = λ k k<. rw same at (cover .own k k<);
+    every = λ p.
+        let (k, k<, like) = cover .every p in
+        (k, k<, subst (Alike m n f g p) (same k k<) like);
+  }
 
   -- ---- what follows from a cover
 
@@ -182,11 +176,10 @@ module _ (m n : ℕ) (pos : 0 < m) (f : ℕ → ℕ) where
   -- that share no input, the sums of assignments that cover one and assignments that cover the other cover the union.
   pub covers-join : (a b c d : ℕ) (e h : ℕ → ℕ) → a < 2 ^ n → b < 2 ^ n → Apart n a b → Covers m n f a c e → Covers m n f b d h
       → Covers m n f (a + b) (c * d) (λ k. e (k % c) + h (k / c))
-  covers-join a b c d e h a< b< apart left right =
-      record {
-        own = λ k k<. sum-own m n pos a b a< b< apart (e (k % c)) (h (k / c)) (left .own (k % c) (mod-lt k (some k k<))) (right .own (k / c) (low k k<));
-        every = λ p. at p (left .every p) (right .every p);
-      }
+  covers-join a b c d e h a< b< apart left right = record {
+    own = λ k k<. sum-own m n pos a b a< b< apart (e (k % c)) (h (k / c)) (left .own (k % c) (mod-lt k (some k k<))) (right .own (k / c) (low k k<));
+    every = λ p. at p (left .every p) (right .every p);
+  }
     where
       some : (k : ℕ) → k < c * d → 0 < c
       some k k< = factor-some c d k k<

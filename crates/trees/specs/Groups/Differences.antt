@@ -1,10 +1,10 @@
 -- Two assignments of a group compared (document 02, K4): the result is `none` exactly if they are alike, and a place exactly if it is the least
 -- at which the inks differ.
 -- Assumes nothing.
-use Rattle.laws.specs.Prelude.{ℕ, _<_, _≤_, _+_, _-_, _^_, _≡_, _∙_, sym, ap, refl, subst, _↔_, _≢_, true, false, Bool, not, List, ℕ-discrete, arith}
-use Rattle.laws.specs.Prelude.{length, getD, eq-eqb, eqb-true, ne-eqb, eqb-false, not-true}
-use mathlib.Core.Option.{Option, none, some, Option·some-injective, Option·none-ne-some}
+use Rattle.laws.specs.Prelude.{ℕ, _<_, _≤_, _+_, _-_, _^_, _≡_, _∙_, sym, ap, refl, subst, _↔_, _≢_, true, false, not, List, ℕ-discrete, arith, length, getD}
+use Rattle.laws.specs.Prelude.{eq-eqb, eqb-true, ne-eqb, eqb-false, not-true, by-cases, test-cases}
 use Rattle.rules.specs.Groups.Groups.{size, part, points, others, alike, alikeOver}
+use mathlib.Core.Option.{Option, none, some, Option·some-injective, Option·none-ne-some}
 use Rattle.rules.specs.Groups.Differences.{differAt, differenceOver, firstDifference}
 use Rattle.laws.specs.Lists.Tests.{all-mem, mem-all}
 use Rattle.laws.specs.Lists.Places.{mem-getD, mem-place}
@@ -42,11 +42,9 @@ module _ (f : ℕ → ℕ) (ys : List ℕ) (p q : ℕ) where
   none-differ = (alike-of told, none-of told)
     where
       same : (k : ℕ) → k < length ys → (Differ f ys p q k → ⊥) → f (p + getD ys k 0) ≡ f (q + getD ys k 0)
-      same k h no-differ = go (ℕ-discrete (f (p + getD ys k 0)) (f (q + getD ys k 0)))
-        where
-          go : Dec (f (p + getD ys k 0) ≡ f (q + getD ys k 0)) → f (p + getD ys k 0) ≡ f (q + getD ys k 0)
-          go (yes e) = e
-          go (no ne) = absurd (no-differ (record { there = h; differ = ne }))
+      same k h no-differ = by-cases (ℕ-discrete (f (p + getD ys k 0)) (f (q + getD ys k 0)))
+          (λ e. e)
+          (λ ne. absurd (no-differ (record { there = h; differ = ne })))
 
       alike-of : {o : Option ℕ} → First (Differ f ys p q) _≤_ o → o ≡ none → alikeOver f ys p q ≡ true
       alike-of (found k d least) e = absurd (Option·none-ne-some k (sym e))
@@ -72,11 +70,8 @@ module _ (f : ℕ → ℕ) (ys : List ℕ) (p q : ℕ) where
 
   -- so the two are not alike if the result is a place
   pub some-unlike : (k : ℕ) → differenceOver f ys p q ≡ some k → alikeOver f ys p q ≡ false
-  some-unlike k e = go (alikeOver f ys p q) refl
-    where
-      go : (b : Bool) → alikeOver f ys p q ≡ b → b ≡ false
-      go true h = absurd (Option·none-ne-some k (sym (none-differ .1 h) ∙ e))
-      go false h = refl
+  some-unlike k e =
+      test-cases (alikeOver f ys p q) (λ h. absurd (Option·none-ne-some k (sym (none-differ .1 h) ∙ e))) (λ h. rw h)
 
 -- The same for a group and all assignments of the other inputs.
 module _ (m n : ℕ) (f : ℕ → ℕ) (g p q : ℕ) where

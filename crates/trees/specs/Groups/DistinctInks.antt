@@ -1,8 +1,8 @@
 -- "the whole group has as many classes as distinct inks"
 -- Assumes nothing.
 use Rattle.laws.specs.Prelude.{ℕ, _<_, _^_, _≡_, _∙_, sym, ap, ap₂, fun-ext, Bool, and-true, List, [], _∷_, map, add-zero, sub-self, eqb, length, length-map}
-use Rattle.rules.specs.Lists.{range, all}
 use Rattle.rules.specs.Groups.Groups.{wholeGroup, others, points, alikeOver, firsts, classes, multiplicity}
+use Rattle.rules.specs.Lists.{range, all}
 use Rattle.laws.specs.Lists.Tests.{all-cons}
 use Rattle.trees.specs.Groups.Firsts.{firsts-map}
 use Rattle.trees.specs.Groups.Points.{points-whole, points-empty}

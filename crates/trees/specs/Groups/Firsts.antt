@@ -4,8 +4,8 @@
 use Rattle.laws.specs.Prelude.{ℕ, _<_, _≡_, sym, refl, _⊎_, inl, inr, ⊎-map, true, false, Bool, List, [], _∷_, _++_, map, List·Memᴰ, List·Memᴰ·head}
 use Rattle.laws.specs.Prelude.{List·Memᴰ·not-nil, List·Memᴰ·tail, List·Memᴰ·append-cases, List·Memᴰ·cases-cons, List·Memᴰ·eq-of-singleton, Memᴰ·append-right}
 use Rattle.laws.specs.Prelude.{Memᴰ·append-left, map-append, le-of-suc-le-suc, eq-or-lt-of-le, arith, length, getD, length-append, List·getD-append, getD-at}
-use Rattle.rules.specs.Lists.{any}
 use Rattle.rules.specs.Groups.Groups.{firsts}
+use Rattle.rules.specs.Lists.{any}
 use Rattle.laws.specs.Lists.Tests.{none-mem, mem-any, any-map}
 use Rattle.laws.specs.Lists.Places.{mem-getD}
 use Rattle.laws.specs.Lists.FirstPlaces.{first-passing}
@@ -31,21 +31,16 @@ module _ (same : ℕ → ℕ → Bool) (own : (p : ℕ) → same p p ≡ true) w
   -- one more element of the list, which is covered
   cover : (ps l : List ℕ) (p : ℕ) → any (same p) l ≡ true → ((q : ℕ) → List·Memᴰ q ps → any (same q) l ≡ true)
       → (q : ℕ) → List·Memᴰ q (p ∷ ps) → any (same q) l ≡ true
-  cover ps l p e rest q i = go (List·Memᴰ·cases-cons i)
-    where
-      go : (q ≡ p) ⊎ List·Memᴰ q ps → any (same q) l ≡ true
-      go (inl d) = rw d e
-      go (inr i) = rest q i
+  cover ps l p e rest q i = elim (List·Memᴰ·cases-cons i) [ inl d ↦ rw d e | inr i ↦ rest q i ]
 
   -- an element that passes against a kept one
   passed : (kept ps l : List ℕ) (p : ℕ) → any (same p) kept ≡ true → Keeps same kept ps l → Keeps same kept (p ∷ ps) l
-  passed kept ps l p e k =
-      record {
-        from = λ x i. ⊎-map (λ i. i) List·Memᴰ·tail (k .from x i);
-        stays = k .stays;
-        covers = cover ps l p (carried kept ps l p e k) (k .covers);
-        fresh = k .fresh;
-      }
+  passed kept ps l p e k = record {
+    from = λ x i. ⊎-map (λ i. i) List·Memᴰ·tail (k .from x i);
+    stays = k .stays;
+    covers = cover ps l p (carried kept ps l p e k) (k .covers);
+    fresh = k .fresh;
+  }
 
   -- an element that passes against none may be appended
   fresh-snoc : (kept : List ℕ) (p : ℕ) → any (same p) kept ≡ false → FreshOf same kept → FreshOf same (kept ++ (p ∷ []))
@@ -60,13 +55,12 @@ module _ (same : ℕ → ℕ → Bool) (own : (p : ℕ) → same p p ≡ true) w
 
   -- an element that passes against no kept one
   added : (kept ps l : List ℕ) (p : ℕ) → any (same p) kept ≡ false → Keeps same (kept ++ (p ∷ [])) ps l → Keeps same kept (p ∷ ps) l
-  added kept ps l p e k =
-      record {
-        from = λ x i. go x (k .from x i);
-        stays = λ x i. k .stays x (Memᴰ·append-left (p ∷ []) i);
-        covers = cover ps l p (mem-any (same p) (k .stays p (Memᴰ·append-right kept (List·Memᴰ·head refl))) (own p)) (k .covers);
-        fresh = λ h. k .fresh (fresh-snoc kept p e h);
-      }
+  added kept ps l p e k = record {
+    from = λ x i. go x (k .from x i);
+    stays = λ x i. k .stays x (Memᴰ·append-left (p ∷ []) i);
+    covers = cover ps l p (mem-any (same p) (k .stays p (Memᴰ·append-right kept (List·Memᴰ·head refl))) (own p)) (k .covers);
+    fresh = λ h. k .fresh (fresh-snoc kept p e h);
+  }
     where
       last : (x : ℕ) → List·Memᴰ x kept ⊎ List·Memᴰ x (p ∷ []) → List·Memᴰ x kept ⊎ List·Memᴰ x (p ∷ ps)
       last x = ⊎-map (λ i. i) (λ i. List·Memᴰ·head (List·Memᴰ·eq-of-singleton i))

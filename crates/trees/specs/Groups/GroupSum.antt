@@ -1,8 +1,8 @@
 -- "A group is a set of inputs, numbered by the sum of 2 to the power i over its members, where i is the place in line 3 from 0."
 -- Assumes nothing.
 use Rattle.laws.specs.Prelude.{ℕ, _<_, _+_, _^_, suc, _*_, zero, _/_, _≡_, refl, true, false, Bool, cond, List, [], _∷_, map, arith}
-use Rattle.rules.specs.Lists.{range, those, total}
 use Rattle.rules.specs.Groups.Groups.{member}
+use Rattle.rules.specs.Lists.{range, those, total}
 use Rattle.laws.specs.Lists.Ranges.{range-shift}
 use Rattle.trees.specs.Groups.Members.{low-bit, member-suc}
 

@@ -1,12 +1,12 @@
 -- Two groups that share no input, and their join: the levels of the join determine the levels of each, and a value that determines the ink
 -- over the join determines it over each.
 -- Assumes nothing.
-use Rattle.laws.specs.Prelude.{ℕ, _<_, _+_, _^_, _≡_, _∙_, sym, ap, refl, true, false, Bool, and-true, and-comm, add-comm}
+use Rattle.laws.specs.Prelude.{ℕ, _<_, _+_, _^_, _≡_, _∙_, sym, ap, true, false, and-true, and-comm, add-comm, test-cases}
 use Rattle.rules.specs.Groups.Groups.{member, part}
+use Rattle.rules.specs.Nets.Trees.{Apart}
 use Rattle.rules.specs.Sheets.Sheets.{level}
 use Rattle.laws.specs.Lists.Tests.{or-false-iff}
 use Rattle.trees.specs.Trees.Trees.{Tells, mix}
-use Rattle.rules.specs.Nets.Trees.{Apart}
 use Rattle.trees.specs.Groups.Members.{member-join, join-below}
 use Rattle.trees.specs.Groups.Levels.{level-ext, level-part-in, level-mix-in, level-mix-out, mix-below, part-ext, part-mix}
 
@@ -44,27 +44,20 @@ module _ (m n : ℕ) (pos : 0 < m) (a b : ℕ) (a< : a < 2 ^ n) (b< : b < 2 ^ n)
   -- a mix over a, mixed over the join with the same y, stays the same
   mix-again : (p y : ℕ) → mix m n (a + b) (mix m n a p y) y ≡ mix m n a p y
   mix-again p y = level-ext m n pos (mix m n (a + b) (mix m n a p y) y) (mix m n a p y)
-      (mix-below m n pos (a + b) (mix m n a p y) y g<) (mix-below m n pos a p y a<) (λ i h. same i h (member i (a + b)) refl)
+      (mix-below m n pos (a + b) (mix m n a p y) y g<) (mix-below m n pos a p y a<) (λ i h. test-cases (member i (a + b))
+      (λ e. level-mix-in m n pos (a + b) (mix m n a p y) y i g< h e)
+      (λ e. level-mix-out m n pos (a + b) (mix m n a p y) y i g< h e ∙ sym (level-mix-out m n pos a p y i a< h (out-of-join i h e))))
     where
       g< : a + b < 2 ^ n
       g< = join-below n a b a< b< apart
-
-      same : (i : ℕ) → i < n → (t : Bool) → member i (a + b) ≡ t → level m n (mix m n (a + b) (mix m n a p y) y) i ≡ level m n (mix m n a p y) i
-      same i h true e = level-mix-in m n pos (a + b) (mix m n a p y) y i g< h e
-      same i h false e =
-          level-mix-out m n pos (a + b) (mix m n a p y) y i g< h e ∙ sym (level-mix-out m n pos a p y i a< h (out-of-join i h e))
 
   -- A value v over a and a value w over b determine a value x over the join. If x determines the ink, v does.
   pub tells-left : (f v w x : ℕ → ℕ) → Over m n a v → Over m n b w → ((p q : ℕ) → v p ≡ v q → w p ≡ w q → x p ≡ x q)
       → Tells m n f (a + b) x → Tells m n f a v
   tells-left f v w x over-a over-b settles tells p q e y =
+      let w-same = over-b _ _ (mix-apart p y ∙ sym (mix-apart q y)) in
+      let v-same = over-a _ p (part-mix m n pos a p y a<) ∙ e ∙ sym (over-a _ q (part-mix m n pos a q y a<)) in
       sym (ap f (mix-again p y)) ∙ tells (mix m n a p y) (mix m n a q y) (settles _ _ v-same w-same) y ∙ ap f (mix-again q y)
-    where
-      v-same : v (mix m n a p y) ≡ v (mix m n a q y)
-      v-same = over-a _ p (part-mix m n pos a p y a<) ∙ e ∙ sym (over-a _ q (part-mix m n pos a q y a<))
-
-      w-same : w (mix m n a p y) ≡ w (mix m n a q y)
-      w-same = over-b _ _ (mix-apart p y ∙ sym (mix-apart q y))
 
 -- the same for the right group
 module _ (m n : ℕ) (pos : 0 < m) (a b : ℕ) (a< : a < 2 ^ n) (b< : b < 2 ^ n) (apart : Apart n a b) where

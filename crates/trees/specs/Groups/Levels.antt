@@ -1,14 +1,14 @@
 -- Indices by their levels: an index below m to the n is determined by its n levels, and `mix` takes each level from one of two indices.
 -- Assumes nothing.
-use Rattle.laws.specs.Prelude.{ℕ, _<_, _+_, _^_, suc, _*_, zero, _%_, _/_, _≡_, _∙_, sym, ap, refl, _⊎_, inl, inr, true, false, Bool, _&&_, not}
-use Rattle.laws.specs.Prelude.{true≢false, cond, _||_, zero-add, add-zero, zero-mul, pow-suc, pow-zero, mod-lt, div-lt-iff-lt-mul, div-add-mod'}
-use Rattle.laws.specs.Prelude.{one-le-pow, le-refl, le-of-suc-le-suc, not-suc-le-zero, le-step, zero-div, eq-or-lt-of-le, zero-mod, arith, digits-lt}
-use Rattle.laws.specs.Prelude.{digits-mod, digits-div, lt-one}
-use Rattle.rules.specs.Sheets.Sheets.{level}
+use Rattle.laws.specs.Prelude.{ℕ, _<_, _+_, _^_, suc, _*_, zero, _%_, _/_, _≡_, _∙_, sym, ap, refl, _⊎_, inl, inr, true, false, Bool, _&&_, not, test-cases}
+use Rattle.laws.specs.Prelude.{true≢false, cond, _||_, zero-add, add-zero, zero-mul, pow-suc, pow-zero, mod-lt, div-lt-iff-lt-mul, div-add-mod', one-le-pow}
+use Rattle.laws.specs.Prelude.{le-refl, le-of-suc-le-suc, not-suc-le-zero, le-step, zero-div, eq-or-lt-of-le, zero-mod, arith, digits-lt, digits-mod}
+use Rattle.laws.specs.Prelude.{digits-div, lt-one}
 use Rattle.rules.specs.Groups.Groups.{member, part, others, wholeGroup}
+use Rattle.rules.specs.Nets.Trees.{Apart}
+use Rattle.rules.specs.Sheets.Sheets.{level}
 use Rattle.laws.specs.Numbers.Levels.{level-last, level-front}
 use Rattle.trees.specs.Trees.Trees.{mix}
-use Rattle.rules.specs.Nets.Trees.{Apart}
 use Rattle.trees.specs.Groups.Members.{member-whole, member-others, member-join, join-below}
 
 -- ---- levels as the digits of an index
@@ -25,16 +25,11 @@ front-below m n p pos h = div-lt-iff-lt-mul pos .1 (rw pow-suc at h)
 pub level-ext : (m n : ℕ) → 0 < m → (p q : ℕ) → p < m ^ n → q < m ^ n → ((i : ℕ) → i < n → level m n p i ≡ level m n q i) → p ≡ q
 level-ext m zero pos p q p< q< e = lt-one (rw pow-zero at p<) ∙ sym (lt-one (rw pow-zero at q<))
 level-ext m (suc n) pos p q p< q< e =
-    whole (level-ext m n pos (p / m) (q / m) (front-below m n p pos p<) (front-below m n q pos q<) front)
+    let d = level-ext m n pos (p / m) (q / m) (front-below m n p pos p<) (front-below m n q pos q<) front in
+    cc (div-add-mod' p m, div-add-mod' q m, sym (level-last m n p) ∙ e n (le-refl (suc n)) ∙ level-last m n q)
   where
     front : (i : ℕ) → i < n → level m n (p / m) i ≡ level m n (q / m) i
     front i h = sym (level-front m n p i h) ∙ e i (le-step h) ∙ level-front m n q i h
-
-    last : p % m ≡ q % m
-    last = sym (level-last m n p) ∙ e n (le-refl (suc n)) ∙ level-last m n q
-
-    whole : p / m ≡ q / m → p ≡ q
-    whole d = cc (div-add-mod' p m, div-add-mod' q m, last)
 
 -- ---- a blend of two indices: the level of input i is p's if the test passes, and y's otherwise
 
@@ -58,13 +53,10 @@ module _ (m : ℕ) (pos : 0 < m) where
   level-blend : (n : ℕ) (b : ℕ → Bool) (p y i : ℕ) → i < n → level m n (blend m n b p y) i ≡ cond (b i) (level m n p i) (level m n y i)
   unfolding blend
   level-blend zero b p y i h = absurd (not-suc-le-zero h)
-  level-blend (suc n) b p y i h = go (at-front h) (level-blend n b (p / m) (y / m) i)
-    where
-      go : (i ≡ n) ⊎ (i < n)
-          → (i < n → level m n (blend m n b (p / m) (y / m)) i ≡ cond (b i) (level m n (p / m) i) (level m n (y / m) i))
-          → level m (suc n) (blend m (suc n) b p y) i ≡ cond (b i) (level m (suc n) p i) (level m (suc n) y i)
-      go (inl e) _ = rw e (simp (level-last, digits-mod (blend m n b (p / m) (y / m)) (blend-digit (b n) p y)))
-      go (inr l) ih = simp (level-front, digits-div (blend m n b (p / m) (y / m)) (blend-digit (b n) p y)) (ih l)
+  level-blend (suc n) b p y i h = elim (at-front h) [
+    | inl e ↦ rw e (simp (level-last, digits-mod (blend m n b (p / m) (y / m)) (blend-digit (b n) p y)))
+    | inr l ↦ simp (level-front, digits-div (blend m n b (p / m) (y / m)) (blend-digit (b n) p y)) (level-blend n b (p / m) (y / m) i l)
+  ]
 
 -- the part of an index in a group is its blend with 0
 part-blend : (m n g p : ℕ) → part m n g p ≡ blend m n (λ i. member i g) p 0
@@ -148,11 +140,9 @@ module _ (m n : ℕ) (pos : 0 < m) where
 
   -- the part in a group depends only on the levels of its members
   pub part-ext : (g p q : ℕ) → ((i : ℕ) → i < n → member i g ≡ true → level m n p i ≡ level m n q i) → part m n g p ≡ part m n g q
-  part-ext g p q e = level-ext m n pos (part m n g p) (part m n g q) (part-below g p) (part-below g q) (λ i h. go i h (member i g) refl)
-    where
-      go : (i : ℕ) → i < n → (c : Bool) → member i g ≡ c → level m n (part m n g p) i ≡ level m n (part m n g q) i
-      go i h true c = simp (level-part, c) (e i h c)
-      go i h false c = simp (level-part, c)
+  part-ext g p q e = level-ext m n pos (part m n g p) (part m n g q) (part-below g p) (part-below g q) (λ i h. test-cases (member i g)
+      (λ c. simp (level-part, c) (e i h c))
+      (λ c. simp (level-part, c)))
 
   -- taking a part again changes nothing
   pub part-part : (g p : ℕ) → part m n g (part m n g p) ≡ part m n g p

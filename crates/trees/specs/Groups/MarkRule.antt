@@ -1,19 +1,19 @@
 -- The computed list of marks follows document 01's three-way rule at every group.
 -- Assumes nothing.
-use Rattle.laws.specs.Prelude.{ℕ, _<_, _≤_, _+_, _-_, _^_, suc, zero, _≡_, _∙_, sym, ap, refl, _≢_, ⊎-elim, _⊎_, inl, inr, true, false, Bool, not}
-use Rattle.laws.specs.Prelude.{true≢false, and-eq-true-iff, _||_, List, [], List·Memᴰ, add-one, ℕ-discrete, arith, eqb, leb, length, length-append}
-use Rattle.laws.specs.Prelude.{List·getD-append, getD-at, eqb-true, eqb-false, leb-true, leb-false}
-use Rattle.rules.specs.Lists.{range, any}
-use Rattle.rules.specs.Sheets.Sheets.{level}
+use Rattle.laws.specs.Prelude.{ℕ, _<_, _≤_, _+_, _-_, _^_, suc, zero, _≡_, _∙_, sym, ap, refl, _≢_, ⊎-elim, _⊎_, inl, inr, true, false, Bool, not, true≢false}
+use Rattle.laws.specs.Prelude.{and-eq-true-iff, _||_, List, [], List·Memᴰ, add-one, ℕ-discrete, arith, eqb, leb, length, length-append, List·getD-append}
+use Rattle.laws.specs.Prelude.{getD-at, eqb-true, eqb-false, leb-true, leb-false, by-cases}
 use Rattle.rules.specs.Groups.Groups.{member, size, multiplicity}
 use Rattle.rules.specs.Groups.Marks.{inside, markIn, partsAt, markOf, marksBelow, marksOf}
+use Rattle.rules.specs.Lists.{range, any}
+use Rattle.rules.specs.Nets.Trees.{Apart}
 use Rattle.rules.specs.Nets.Wirings.{firstInput}
+use Rattle.rules.specs.Sheets.Sheets.{level}
 use Rattle.laws.specs.Nets.StoredMarks.{InTwoBits}
 use Rattle.laws.specs.Lists.Tests.{mem-any, any-same}
 use Rattle.laws.specs.Lists.Ranges.{mem-range, range-mem}
 use Rattle.laws.specs.Lists.FirstPlaces.{first-passes}
 use Rattle.trees.specs.Trees.Trees.{Tells}
-use Rattle.rules.specs.Nets.Trees.{Apart}
 use Rattle.trees.specs.Groups.Members.{member-single, inside-join, rest-apart, size-one, size-zero}
 use Rattle.trees.specs.Groups.Levels.{level-below, part-ext}
 use Rattle.trees.specs.Groups.Joins.{apart-sym}
@@ -77,17 +77,16 @@ parts-found n marks g g< parts =
 
 -- the two parts, exchanged
 unfoldable pub parts-swap : (n : ℕ) (mark : ℕ → ℕ) (g : ℕ) → PartsIntoTwos n mark g → PartsIntoTwos n mark g
-parts-swap n mark g parts =
-    record {
-      a = parts .b;
-      b = parts .a;
-      joined = omega arith;
-      apart = apart-sym n (parts .a) (parts .b) (parts .apart);
-      some-a = parts .some-b;
-      some-b = parts .some-a;
-      two-a = parts .two-b;
-      two-b = parts .two-a;
-    }
+parts-swap n mark g parts = record {
+  a = parts .b;
+  b = parts .a;
+  joined = omega arith;
+  apart = apart-sym n (parts .a) (parts .b) (parts .apart);
+  some-a = parts .some-b;
+  some-b = parts .some-a;
+  two-a = parts .two-b;
+  two-b = parts .two-a;
+}
 
 -- the rule's search finds something exactly if the group parts into twos
 pub search-parts : (n : ℕ) (marks : List ℕ) (g : ℕ) → g < 2 ^ n → any (partsAt n marks g) (range 1 (g - 1)) ≡ true
@@ -129,8 +128,7 @@ mark-outcome m n f marks g = go (none-test m n f g) (two-test n marks g)
 pub mark-agree : (m n : ℕ) (f : ℕ → ℕ) (xs ys : List ℕ) (g : ℕ) → ((a : ℕ) → a < g → markIn xs a ≡ markIn ys a)
     → markOf m n f xs g ≡ markOf m n f ys g
 unfolding partsAt
-mark-agree m n f xs ys g e =
-    simp (mark-outcome, any-same (partsAt n xs g) (partsAt n ys g) (range 1 (g - 1)) same-test)
+mark-agree m n f xs ys g e = simp (mark-outcome, any-same (partsAt n xs g) (partsAt n ys g) (range 1 (g - 1)) same-test)
   where
     same-test : (a : ℕ) → List·Memᴰ a (range 1 (g - 1)) → partsAt n xs g a ≡ partsAt n ys g a
     same-test a i = let between = range-mem 1 (g - 1) a i in rw (e a (omega arith), e (g - a) (omega arith))
@@ -145,13 +143,9 @@ module _ (m n : ℕ) (f : ℕ → ℕ) where
   mark-below : (k g : ℕ) → g < k → markIn (marksBelow m n f k) g ≡ markOf m n f (marksBelow m n f g) g
   unfolding marksBelow
   mark-below zero g h = absurd (omega arith)
-  mark-below (suc k) g h = go (ℕ-discrete g k) (mark-below k g)
-    where
-      go : Dec (g ≡ k) → (g < k → markIn (marksBelow m n f k) g ≡ markOf m n f (marksBelow m n f g) g)
-          → markIn (marksBelow m n f (suc k)) g ≡ markOf m n f (marksBelow m n f g) g
-      go (yes e) below = rw e (getD-at (marksBelow m n f k) _ [] 0 k (marks-below-length k))
-      go (no ne) below =
-          List·getD-append (marksBelow m n f k) _ 0 g (rw (marks-below-length k) (omega arith)) ∙ below (omega arith)
+  mark-below (suc k) g h = by-cases (ℕ-discrete g k)
+      (λ e. rw e (getD-at (marksBelow m n f k) _ [] 0 k (marks-below-length k)))
+      (λ ne. List·getD-append (marksBelow m n f k) _ 0 g (rw (marks-below-length k) (omega arith)) ∙ mark-below k g (omega arith))
 
 -- which of the three cases applies to a group
 pub data Way (m n : ℕ) (f mark : ℕ → ℕ) (g : ℕ) : Type 0 where
@@ -215,39 +209,37 @@ module _ (m n : ℕ) (pos : 0 < m) (f : ℕ → ℕ) where
 
   -- a mark fits into two bits
   pub mark-small : InTwoBits (2 ^ n) (marksOf m n f)
-  mark-small g g< = go (way g g<)
-    where
-      go : Way m n f marked g → marked g < 4
-      go (to-none _ e) = omega (arith, e)
-      go (to-two _ _ _ e) = omega (arith, e)
-      go (to-one _ _ _ _ e) = omega (arith, e)
+  mark-small g g< = elim (way g g<) [
+    | to-none _ e ↦ omega (arith, e)
+    | to-two _ _ _ e ↦ omega (arith, e)
+    | to-one _ _ _ _ e ↦ omega (arith, e)
+  ]
 
   -- the computed list of marks satisfies document 01's rule at every group
   pub three-way : (g : ℕ) → g < 2 ^ n → ThreeWay m n f marked g
-  three-way g g< = go (way g g<)
-    where
-      go : Way m n f marked g → ThreeWay m n f marked g
-      go (to-none not-some e) =
-          record {
-            empty = λ _. e;
-            over = λ _. e;
-            single = λ one. absurd (not-some (single-some g one) (single-few g g< one));
-            parted = λ few parts. absurd (not-some (omega arith) few);
-            otherwise = λ some few _ _. absurd (not-some some few);
-          }
-      go (to-two some few why e) =
-          record {
-            empty = omega arith;
-            over = omega arith;
-            single = λ _. e;
-            parted = λ _ _. e;
-            otherwise = λ _ _ several no-parts. absurd (⊎-elim several no-parts why);
-          }
-      go (to-one some few several no-parts e) =
-          record {
-            empty = omega arith;
-            over = omega arith;
-            single = λ one. absurd (several one);
-            parted = λ _ parts. absurd (no-parts parts);
-            otherwise = λ _ _ _ _. e;
-          }
+  three-way g g< = elim (way g g<) [
+    | to-none not-some e ↦
+        record {
+          empty = λ _. e;
+          over = λ _. e;
+          single = λ one. absurd (not-some (single-some g one) (single-few g g< one));
+          parted = λ few parts. absurd (not-some (omega arith) few);
+          otherwise = λ some few _ _. absurd (not-some some few);
+        }
+    | to-two some few why e ↦
+        record {
+          empty = omega arith;
+          over = omega arith;
+          single = λ _. e;
+          parted = λ _ _. e;
+          otherwise = λ _ _ several no-parts. absurd (⊎-elim several no-parts why);
+        }
+    | to-one some few several no-parts e ↦
+        record {
+          empty = omega arith;
+          over = omega arith;
+          single = λ one. absurd (several one);
+          parted = λ _ parts. absurd (no-parts parts);
+          otherwise = λ _ _ _ _. e;
+        }
+  ]

@@ -1,17 +1,17 @@
 -- Groups as sets: a group's number, its members and its size.
 -- Assumes nothing.
-use Rattle.laws.specs.Prelude.{ℕ, _<_, _≤_, _+_, _-_, _^_, suc, zero, _%_, _/_, _≡_, _∙_, sym, ap, refl, ap₂, true, false, Bool, _&&_, not, _||_}
-use Rattle.laws.specs.Prelude.{false≢true, and-false, pow-succ', zero-div, div-div-eq-div-mul, div-one, arith, eqb, eqb·suc-zero, eqb·suc-suc}
-use Rattle.laws.specs.Prelude.{eqb·zero-suc, pow-pos, pow-lt}
-use Rattle.rules.specs.Lists.{range, those}
+use Rattle.laws.specs.Prelude.{ℕ, _<_, _≤_, _+_, _-_, _^_, suc, zero, _%_, _/_, _≡_, _∙_, sym, ap, refl, ap₂, true, false, Bool, _&&_, not, _||_, false≢true}
+use Rattle.laws.specs.Prelude.{and-false, pow-succ', zero-div, div-div-eq-div-mul, div-one, arith, eqb, eqb·suc-zero, eqb·suc-suc, eqb·zero-suc, pow-pos}
+use Rattle.laws.specs.Prelude.{pow-lt, test-cases}
 use Rattle.rules.specs.Groups.Groups.{member, size, wholeGroup, others}
 use Rattle.rules.specs.Groups.Marks.{inside}
+use Rattle.rules.specs.Lists.{range, those}
+use Rattle.rules.specs.Nets.Trees.{Apart}
 use Rattle.rules.specs.Nets.Wirings.{firstInput}
 use Rattle.laws.specs.Lists.Tests.{all-mem, mem-all, oneWhere, one-if-le, one-if-or}
 use Rattle.laws.specs.Lists.Ranges.{range-shift, mem-range, range-mem}
 use Rattle.laws.specs.Lists.Counts.{count-cons, count-map}
 use Rattle.laws.specs.Lists.FirstPlaces.{first-cons, first-map}
-use Rattle.rules.specs.Nets.Trees.{Apart}
 
 -- ---- a group by its lowest bit and the group of the other bits
 
@@ -28,11 +28,7 @@ low-bit g = rw div-one (go (g % 2) (omega arith))
 -- and conversely: input 0 is a member if the lowest bit is 1
 pub low-member : (g : ℕ) (t : Bool) → g % 2 ≡ oneWhere t → member zero g ≡ t
 unfolding member
-low-member g t e = rw (div-one, e) (go t)
-  where
-    go : (s : Bool) → eqb (oneWhere s) 1 ≡ s
-    go true = refl
-    go false = refl
+low-member g t e = rw (div-one, e) (elim t as (λ s. eqb (oneWhere s) 1 ≡ s) [ true ↦ refl | false ↦ refl ])
 
 -- the other members are those of the half, shifted by one place
 pub member-suc : (i g : ℕ) → member (suc i) g ≡ member i (g / 2)
@@ -273,26 +269,20 @@ first-even n g e = first-cons (λ i. member i g) 0 (range 1 n) ∙ simp (e, rang
 -- a group of one member is that member's power of two
 pub size-one : (n g : ℕ) → g < 2 ^ n → size n g ≡ 1 → (firstInput n g < n) × (g ≡ 2 ^ firstInput n g)
 size-one zero g g< h = absurd (omega (arith, size-le 0 g))
-size-one (suc n) g g< h = go (size-one n (g / 2) (omega arith)) (member 0 g) refl
-  where
-    go : (size n (g / 2) ≡ 1 → (firstInput n (g / 2) < n) × (g / 2 ≡ 2 ^ firstInput n (g / 2))) → (t : Bool) → member 0 g ≡ t
-        → (firstInput (suc n) g < suc n) × (g ≡ 2 ^ firstInput (suc n) g)
-    go ih true e =
-        let low : g % 2 ≡ 1 = low-bit g ∙ ap oneWhere e in
-        rw (first-odd n g e) (omega (arith, size-empty n (g / 2) (omega arith) (omega (arith, size-suc n g))))
-    go ih false e =
-        let low : g % 2 ≡ 0 = low-bit g ∙ ap oneWhere e in
-        rw (first-even n g e) (omega (arith, ih (omega (arith, size-suc n g))))
+size-one (suc n) g g< h = test-cases (member 0 g)
+    (λ e.
+    let low : g % 2 ≡ 1 = low-bit g ∙ ap oneWhere e in
+    rw (first-odd n g e) (omega (arith, size-empty n (g / 2) (omega arith) (omega (arith, size-suc n g)))))
+    (λ e.
+    let low : g % 2 ≡ 0 = low-bit g ∙ ap oneWhere e in
+    rw (first-even n g e) (omega (arith, size-one n (g / 2) (omega arith) (omega (arith, size-suc n g)))))
 
 -- the first-listed member of a group that is not empty
 pub first-member : (n g : ℕ) → g < 2 ^ n → 0 < g → (firstInput n g < n) × (member (firstInput n g) g ≡ true)
 first-member zero g g< h = absurd (omega arith)
-first-member (suc n) g g< h = go (first-member n (g / 2) (omega arith)) (member 0 g) refl
-  where
-    go : (0 < g / 2 → (firstInput n (g / 2) < n) × (member (firstInput n (g / 2)) (g / 2) ≡ true)) → (t : Bool) → member 0 g ≡ t
-        → (firstInput (suc n) g < suc n) × (member (firstInput (suc n) g) g ≡ true)
-    go ih true e = rw (first-odd n g e) (omega arith, e)
-    go ih false e =
-        let low : g % 2 ≡ 0 = low-bit g ∙ ap oneWhere e in
-        let (below, is) = ih (omega arith) in
-        rw (first-even n g e) (omega arith, member-suc (firstInput n (g / 2)) g ∙ is)
+first-member (suc n) g g< h = test-cases (member 0 g)
+    (λ e. rw (first-odd n g e) (omega arith, e))
+    (λ e.
+    let low : g % 2 ≡ 0 = low-bit g ∙ ap oneWhere e in
+    let (below, is) = first-member n (g / 2) (omega arith) (omega arith) in
+    rw (first-even n g e) (omega arith, member-suc (firstInput n (g / 2)) g ∙ is))

@@ -1,10 +1,10 @@
 -- The list of a group's assignments.
 -- Assumes nothing.
-use Rattle.laws.specs.Prelude.{ℕ, _<_, _≤_, _+_, _-_, _^_, suc, _*_, zero, _%_, _/_, _≡_, _∙_, sym, ap, refl, fun-ext, _⊎_, inl, inr, true, false, Bool}
-use Rattle.laws.specs.Prelude.{cond, List, [], _∷_, _++_, map, List·Memᴰ, List·Memᴰ·head, List·Memᴰ·not-nil, List·Memᴰ·tail, List·Memᴰ·append-cases}
-use Rattle.laws.specs.Prelude.{List·Memᴰ·eq-of-singleton, zero-add, add-zero, zero-mul, pow-suc, suc-mul, pow-zero, mod-lt, lt-of-lt-of-le}
-use Rattle.laws.specs.Prelude.{div-lt-iff-lt-mul, div-add-mod', le-refl, one-mul, add-comm, le-of-suc-le-suc, not-suc-le-zero, le-step}
-use Rattle.laws.specs.Prelude.{add-lt-add-of-le-of-lt, div-mul-le-self, le-add-right, arith, length, getD, digits-mod, digits-div, pow-add}
+use Rattle.laws.specs.Prelude.{ℕ, _<_, _+_, _-_, _^_, suc, _*_, zero, _%_, _/_, _≡_, _∙_, sym, ap, refl, fun-ext, _⊎_, inl, inr, true, false, Bool, cond}
+use Rattle.laws.specs.Prelude.{List, [], _∷_, _++_, map, List·Memᴰ, List·Memᴰ·head, List·Memᴰ·not-nil, List·Memᴰ·tail, List·Memᴰ·append-cases}
+use Rattle.laws.specs.Prelude.{List·Memᴰ·eq-of-singleton, zero-add, add-zero, zero-mul, pow-suc, suc-mul, pow-zero, mod-lt, lt-of-lt-of-le, div-lt-iff-lt-mul}
+use Rattle.laws.specs.Prelude.{div-add-mod', le-refl, one-mul, add-comm, le-of-suc-le-suc, not-suc-le-zero, le-step, add-lt-add-of-le-of-lt, div-mul-le-self}
+use Rattle.laws.specs.Prelude.{le-add-right, arith, length, getD, digits-mod, digits-div, pow-add}
 use Rattle.rules.specs.Groups.Groups.{member, part, points, size, wholeGroup}
 use Rattle.rules.specs.Lists.{range, concatMap, those}
 use Rattle.laws.specs.Lists.Places.{mem-getD}
@@ -47,13 +47,12 @@ choice-digit m pos false d h = omega arith
 
 -- an index in a block, by its digits
 block-mem : (m : ℕ) → 0 < m → (c : Bool) (r q : ℕ) → List·Memᴰ q (block m c r) → (q / m ≡ r) × (cond c (q % m) 0 ≡ q % m)
-block-mem m pos c r q i = go (range-mem (r * m) (choices m c) q i)
+block-mem m pos c r q i =
+    let b = range-mem (r * m) (choices m c) q i in
+    digits (q - r * m) (omega arith) (choice-digit m pos c (q - r * m) (omega arith))
   where
     digits : (d : ℕ) → q ≡ r * m + d → (d < m) × (cond c d 0 ≡ d) → (q / m ≡ r) × (cond c (q % m) 0 ≡ q % m)
     digits d e l = rw (e, digits-div r (l .0), digits-mod r (l .0)) (refl, l .1)
-
-    go : (r * m ≤ q) × (q < r * m + choices m c) → (q / m ≡ r) × (cond c (q % m) 0 ≡ q % m)
-    go b = digits (q - r * m) (omega arith) (choice-digit m pos c (q - r * m) (omega arith))
 
 -- the part of an index in the group is one of its assignments
 pub part-in-points : (m n : ℕ) → 0 < m → (g p : ℕ) → List·Memᴰ (part m n g p) (points m n g)
@@ -69,15 +68,11 @@ part-in-points m (suc n) pos g p =
 points-fixed : (m n : ℕ) → 0 < m → (g q : ℕ) → List·Memᴰ q (points m n g) → part m n g q ≡ q
 unfolding part points
 points-fixed m zero pos g q h = sym (List·Memᴰ·eq-of-singleton h)
-points-fixed m (suc n) pos g q h = go (concat-mem (block m (member n g)) (points m n g) (rw points-suc at h)) (points-fixed m n pos g)
-  where
-    join : (r : ℕ) → part m n g r ≡ r → (q / m ≡ r) × (cond (member n g) (q % m) 0 ≡ q % m) → part m (suc n) g q ≡ q
-    join r e b = cc (div-add-mod' q m)
-
-    go : (r : ℕ) × List·Memᴰ r (points m n g) × List·Memᴰ q (block m (member n g) r)
-        → ((r : ℕ) → List·Memᴰ r (points m n g) → part m n g r ≡ r)
-        → part m (suc n) g q ≡ q
-    go s rest = join (s .0) (rest (s .0) (s .1)) (block-mem m pos (member n g) (s .0) q (s .2))
+points-fixed m (suc n) pos g q h =
+    let s = concat-mem (block m (member n g)) (points m n g) (rw points-suc at h) in
+    let fixed = points-fixed m n pos g (s .0) (s .1) in
+    let digits = block-mem m pos (member n g) (s .0) q (s .2) in
+    cc (div-add-mod' q m)
 
 -- ---- their order
 

@@ -60,16 +60,15 @@ module _ (m n : ℕ) (pos : 0 < m) (f : ℕ → ℕ) (g : ℕ) (g< : g < 2 ^ n) 
     -- The first of each class among rows that cover g.
     pub firsts-reps : (xs : List ℕ) → Listed m n f g xs → Reps m n f g (length (firsts (alikeOver f ys) [] xs)) (λ k. getD (firsts (alikeOver f ys) [] xs) k 0)
     unfolding alikeOver
-    firsts-reps xs rows =
-        record {
-          cover = covers-kept m n pos f g (length xs) (λ k. getD xs k 0) (length kept) (λ k. getD kept k 0) rows own
-              (λ k k<.
-              let (j<, passes) = first-passing (alikeOver f ys (getD xs k 0)) 0 kept (keeps .covers _ (mem-getD xs k 0 k<)) in
-              (_, j<, agree-alike _ _ (rows .own k k<) (own _ j<) passes));
-          differ = λ i j h j< like.
-              true≢false (sym (alike-agree _ _ (own j j<) (own i (omega arith)) (alike-sym m n pos f g _ _ like))
-              ∙ keeps .fresh (λ _ _ _ l. absurd (not-suc-le-zero l)) i j h j<);
-        }
+    firsts-reps xs rows = record {
+      cover = covers-kept m n pos f g (length xs) (λ k. getD xs k 0) (length kept) (λ k. getD kept k 0) rows own
+          (λ k k<.
+          let (j<, passes) = first-passing (alikeOver f ys (getD xs k 0)) 0 kept (keeps .covers _ (mem-getD xs k 0 k<)) in
+          (_, j<, agree-alike _ _ (rows .own k k<) (own _ j<) passes));
+      differ = λ i j h j< like.
+          true≢false (sym (alike-agree _ _ (own j j<) (own i (omega arith)) (alike-sym m n pos f g _ _ like))
+          ∙ keeps .fresh (λ _ _ _ l. absurd (not-suc-le-zero l)) i j h j<);
+    }
       where
         kept : List ℕ
         kept = firsts (alikeOver f ys) [] xs

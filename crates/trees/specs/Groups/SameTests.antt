@@ -2,8 +2,8 @@
 -- Assumes nothing.
 use Rattle.laws.specs.Prelude.{suc, _≡_, ap, refl, subst⁻¹, ⊎-elim, true, false, Bool, List, [], _∷_, _++_, List·Memᴰ, List·Memᴰ·head, List·Memᴰ·tail}
 use Rattle.laws.specs.Prelude.{List·Memᴰ·append-cases, List·Memᴰ·eq-of-singleton}
-use Rattle.rules.specs.Lists.{all, any, firstPlace}
 use Rattle.rules.specs.Groups.Groups.{firsts}
+use Rattle.rules.specs.Lists.{all, any, firstPlace}
 use Rattle.laws.specs.Lists.Tests.{any-same, by-test}
 
 -- equal tests select equal things

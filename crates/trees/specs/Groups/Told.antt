@@ -2,12 +2,12 @@
 -- the group with any of these inputs added. So a larger group is known to have too many classes without reading the cells.
 -- Assumes nothing.
 use Rattle.laws.specs.Prelude.{ℕ, _<_, _≤_, _+_, _^_, _≡_, _∙_, sym, ap, refl, _≢_, true, false, Bool, true≢false, cond, _||_}
-use Rattle.rules.specs.Sheets.Sheets.{level}
 use Rattle.rules.specs.Groups.Groups.{member, multiplicity}
 use Rattle.rules.specs.Nets.Filling.{classNumber}
+use Rattle.rules.specs.Nets.Trees.{Apart}
+use Rattle.rules.specs.Sheets.Sheets.{level}
 use Rattle.laws.specs.Lists.Pigeonhole.{later-differ, pigeonhole}
 use Rattle.trees.specs.Trees.Trees.{mix}
-use Rattle.rules.specs.Nets.Trees.{Apart}
 use Rattle.trees.specs.Groups.Members.{member-join, join-below}
 use Rattle.trees.specs.Groups.Levels.{level-ext, level-mix, mix-below}
 use Rattle.trees.specs.Groups.Classes.{class-below, class-alike}
@@ -38,18 +38,17 @@ module _ (m n : ℕ) (pos : 0 < m) (f : ℕ → ℕ) where
   -- Too many, inherited: d shares no input with g, and is inside s. Each row takes the columns' levels at d, and s is passed on unchanged.
   pub told-on : (g d s k : ℕ) → g < 2 ^ n → d < 2 ^ n → Apart n g d → ((i : ℕ) → i < n → member i d ≡ true → member i s ≡ true)
       → Told m n f g s k → Told m n f (g + d) s k
-  told-on g d s k g< d< apart inside told =
-      record {
-        row = wide;
-        base = told .base;
-        apart = λ i j h j<.
-            let at = told .apart i j h j< in
-            record {
-              column = at .column;
-              same = at .same;
-              differ = λ e. at .differ (ap f (sym (same-index (at .column) (at .same) i)) ∙ e ∙ ap f (same-index (at .column) (at .same) j));
-            };
-      }
+  told-on g d s k g< d< apart inside told = record {
+    row = wide;
+    base = told .base;
+    apart = λ i j h j<.
+        let at = told .apart i j h j< in
+        record {
+          column = at .column;
+          same = at .same;
+          differ = λ e. at .differ (ap f (sym (same-index (at .column) (at .same) i)) ∙ e ∙ ap f (same-index (at .column) (at .same) j));
+        };
+  }
     where
       wide : ℕ → ℕ
       wide i = mix m n d (told .base) (told .row i)
@@ -71,13 +70,10 @@ module _ (m n : ℕ) (pos : 0 < m) (f : ℕ → ℕ) where
           )
           (at a a< (member a g) (member a d) refl refl))
         where
-          both : (a : ℕ) → a < n → member a g ≡ true → member a d ≡ true → ⊥
-          both a a< in-g in-d = true≢false (rw (in-g, in-d) at (apart a a<))
-
           at : (a : ℕ) → a < n → (t u : Bool) → member a g ≡ t → member a d ≡ u
               → cond (t || u) (cond u (level m n (told .base) a) (level m n (told .row i) a)) (level m n y a)
               ≡ cond t (level m n (told .row i) a) (level m n y a)
-          at a a< true true in-g in-d = absurd (both a a< in-g in-d)
+          at a a< true true in-g in-d = absurd (true≢false (rw (in-g, in-d) at (apart a a<)))
           at a a< true false in-g in-d = refl
           at a a< false true in-g in-d = sym (same a a< (inside a a< in-d))
           at a a< false false in-g in-d = refl

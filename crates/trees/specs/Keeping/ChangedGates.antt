@@ -1,12 +1,12 @@
 -- "the set of the gates whose table field differs from the old one, as the sum of 2 to the power of each one's number" (document 02, K10): bit k of
 -- the sum is gate k's and no other bit is set, so the sum determines exactly these gates.
 -- Assumes nothing.
-use Rattle.laws.specs.Prelude.{ℕ, _<_, _≤_, _+_, _^_, suc, _*_, zero, _/_, _≡_, _∙_, sym, ap, refl, subst, _↔_, _≢_, true, false, Bool, not, true≢false}
-use Rattle.laws.specs.Prelude.{cond, List, [], zero-add, lt-of-lt-of-le, div-eq-of-lt, decLt, arith, length, not-true, pow-mono, pow-pos}
+use Rattle.laws.specs.Prelude.{ℕ, _<_, _≤_, _+_, _^_, suc, _*_, zero, _/_, _≡_, _∙_, sym, ap, refl, subst, _↔_, _≢_, true, false, Bool, not, true≢false, cond}
+use Rattle.laws.specs.Prelude.{List, zero-add, lt-of-lt-of-le, div-eq-of-lt, decLt, arith, length, not-true, pow-mono, pow-pos, by-cases}
+use Rattle.rules.specs.Calls.Keeping.{tableAt, tableDiffers, changedGates}
+use Rattle.rules.specs.Groups.Groups.{member}
 use Rattle.rules.specs.Lists.{range, those, same, total}
 use Rattle.rules.specs.Sheets.Sheets.{Gate}
-use Rattle.rules.specs.Groups.Groups.{member}
-use Rattle.rules.specs.Calls.Keeping.{tableAt, tableDiffers, changedGates}
 use Rattle.laws.specs.Lists.Ranges.{range-shift}
 use Rattle.laws.specs.Lists.Same.{same-refl, same-true}
 use Rattle.laws.specs.Lists.Tests.{oneWhere, one-if-le, not-true-false}
@@ -51,11 +51,9 @@ past k g h = rw (div-eq-of-lt h)
 
 -- a number below 2 to the n has no bit from n on
 bit-below : (k n g : ℕ) → g < 2 ^ n → member k g ≡ true → k < n
-bit-below k n g g< e = go (decLt k n)
-  where
-    go : Dec (k < n) → k < n
-    go (yes h) = h
-    go (no h) = absurd (true≢false (sym e ∙ past k g (lt-of-lt-of-le g< (pow-mono {i = n} {j = k} (omega arith)))))
+bit-below k n g g< e = by-cases (decLt k n)
+    (λ h. h)
+    (λ h. absurd (true≢false (sym e ∙ past k g (lt-of-lt-of-le g< (pow-mono {i = n} {j = k} (omega arith))))))
 
 -- ---- the set
 
@@ -89,10 +87,7 @@ module _ (old new : List Gate) where
 
   -- The set is exactly the gates that changed.
   pub changed-exactly : (k : ℕ) → (member k (changedGates old new) ≡ true) ↔ ((0 < k) × (k ≤ length old) × (tableAt old k ≢ tableAt new k))
-  changed-exactly zero = (
-    λ e. absurd (true≢false (sym e ∙ bit-is 0 (omega arith))),
-    λ h. absurd (omega (arith, h .0)),
-  )
+  changed-exactly zero = (λ e. absurd (true≢false (sym e ∙ bit-is 0 (omega arith))), λ h. absurd (omega (arith, h .0)))
   changed-exactly (suc k) = (
     λ e. let small = bit-below (suc k) (suc (length old)) (changedGates old new) changed-below e in
         (omega arith, omega arith, differs (suc k) .0 (sym (bit-is (suc k) small) ∙ e)),

@@ -1,14 +1,14 @@
 -- What depends only on a net's wiring: its references, its gates' groups, and so whether gates with other tables are a net. Filling keeps the wiring.
 -- Assumes nothing.
-use Rattle.laws.specs.Prelude.{ℕ, _<_, _+_, suc, _≡_, _∙_, sym, ap, refl, subst⁻¹, List, [], _∷_, _++_, append-assoc, append-nil}
-use Rattle.laws.specs.Prelude.{arith, eqb, length, getD, length-map, getD-append-add}
-use Rattle.rules.specs.Lists.{any, withEach}
-use Rattle.rules.specs.Sheets.Sheets.{Gate, usedBy}
-use Rattle.rules.specs.Nets.Wirings.{Link}
-use Rattle.rules.specs.Nets.Filling.{inputGroups, filledFrom, filled}
-use Rattle.rules.specs.Nets.Family.{groupsFrom, gateGroups}
+use Rattle.laws.specs.Prelude.{ℕ, _<_, _+_, suc, _≡_, _∙_, sym, ap, refl, subst⁻¹, List, [], _∷_, _++_, append-assoc, append-nil, arith, eqb, length, getD}
+use Rattle.laws.specs.Prelude.{length-map, getD-append-add}
 use Rattle.rules.specs.Calls.Keeping.{linkOf, gateLinks, keptGates}
+use Rattle.rules.specs.Lists.{any, withEach}
+use Rattle.rules.specs.Nets.Family.{groupsFrom, gateGroups}
+use Rattle.rules.specs.Nets.Filling.{inputGroups, filledFrom, filled}
+use Rattle.rules.specs.Nets.Wirings.{Link}
 use Rattle.rules.specs.Sheets.SheetRules.{RefersBack, Distinct, Tables, IsNet}
+use Rattle.rules.specs.Sheets.Sheets.{Gate, usedBy}
 use Rattle.trees.specs.Filling.Fillings.{linkGroup, withGroups, inputs-grouped}
 use Rattle.trees.specs.Filling.GateGroups.{linkGroups}
 

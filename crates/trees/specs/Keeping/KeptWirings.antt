@@ -5,23 +5,23 @@
 use Rattle.laws.specs.Prelude.{ℕ, _<_, _≤_, _+_, _-_, _^_, suc, _≡_, _∙_, sym, ap, refl, subst⁻¹, _↔_, ⊎-elim, _⊎_, inl, inr, true, false, Bool, _&&_, not}
 use Rattle.laws.specs.Prelude.{true≢false, and-eq-true-iff, List, [], _∷_, _++_, List·Memᴰ, lt-of-not-le, decLt, decLe, arith, eqb, ltb, length, getD}
 use Rattle.laws.specs.Prelude.{length-map, getD-append-seam, ltb-true, ltb-false}
-use Rattle.rules.specs.Lists.{range, any, firstPlace, withEach}
-use Rattle.rules.specs.Sheets.Sheets.{Gate, Net, Table, usedBy, levelsAt}
-use Rattle.rules.specs.Nets.Value.{gateValue, withGates, value, valueWith}
-use Rattle.rules.specs.Groups.Groups.{part, multiplicity}
-use Rattle.rules.specs.Nets.Wirings.{Wiring, input, gate, Link}
-use Rattle.rules.specs.Nets.Filling.{given, inputGroups, filledFrom, filled}
-use Rattle.rules.specs.Nets.Leaves.{matters}
-use Rattle.rules.specs.Nets.Family.{gateGroups}
 use Rattle.rules.specs.Calls.Answers.{inkIn}
 use Rattle.rules.specs.Calls.Keeping.{linkOf, gateLinks, keptGates, roomyGates, leavesOut}
+use Rattle.rules.specs.Groups.Groups.{part, multiplicity}
+use Rattle.rules.specs.Lists.{range, any, firstPlace, withEach}
+use Rattle.rules.specs.Nets.Family.{gateGroups}
+use Rattle.rules.specs.Nets.Filling.{given, inputGroups, filledFrom, filled}
+use Rattle.rules.specs.Nets.Leaves.{matters}
+use Rattle.rules.specs.Nets.Trees.{Tree, wiringIn, Computes}
+use Rattle.rules.specs.Nets.Value.{gateValue, withGates, value, valueWith}
+use Rattle.rules.specs.Nets.Wirings.{Wiring, input, gate, Link}
 use Rattle.rules.specs.Sheets.SheetRules.{RefersBack, Tables, IsNet}
+use Rattle.rules.specs.Sheets.Sheets.{Gate, Net, Table, usedBy, levelsAt}
 use Rattle.laws.specs.Lists.Tests.{not-true-false, none-mem}
 use Rattle.laws.specs.Lists.FirstPlaces.{before-first, at-first, first-passing}
 use Rattle.laws.specs.Lists.Places.{length-snoc, mem-getD}
 use Rattle.laws.specs.Lists.Ranges.{mem-range, range-mem}
 use Rattle.trees.specs.Trees.Trees.{EachGate}
-use Rattle.rules.specs.Nets.Trees.{Tree, wiringIn, Computes}
 use Rattle.laws.specs.Lists.WithEach.{with-each-length}
 use Rattle.trees.specs.Groups.Classes.{Few}
 use Rattle.trees.specs.Filling.DigitRule.{gate-table}
@@ -214,12 +214,11 @@ module _ (m n : ℕ) (pos : 0 < m) (f : ℕ → ℕ) (gates : List Gate) (net : 
 
     pub kept-fills : UsesMattering m n f gates → ((p : ℕ) → p < m ^ n → f p < m) → Filling m n f gates (keptGates m n f gates)
     unfolding keptGates filled
-    kept-fills uses inks =
-        record {
-          wiring = kept-links m n f gates;
-          tables = filled-tables m n pos f (inputGroups n) (gateLinks gates) kept-fillable inks;
-          computes = kept-value uses;
-        }
+    kept-fills uses inks = record {
+      wiring = kept-links m n f gates;
+      tables = filled-tables m n pos f (inputGroups n) (gateLinks gates) kept-fillable inks;
+      computes = kept-value uses;
+    }
 
   -- ---- the first gate with too many
 
@@ -235,10 +234,7 @@ module _ (m n : ℕ) (pos : 0 < m) (f : ℕ → ℕ) (gates : List Gate) (net : 
 
   -- there is no such gate exactly if all have few
   pub all-roomy : (length gates ≤ roomyGates m n f gates) ↔ GatesFew m n f gates
-  all-roomy = (
-    λ all k h. roomy-before k (omega arith),
-    λ few. go few (decLe (length gates) (roomyGates m n f gates)),
-  )
+  all-roomy = (λ all k h. roomy-before k (omega arith), λ few. go few (decLe (length gates) (roomyGates m n f gates)))
     where
       go : GatesFew m n f gates → Dec (length gates ≤ roomyGates m n f gates) → length gates ≤ roomyGates m n f gates
       go few (yes all) = all

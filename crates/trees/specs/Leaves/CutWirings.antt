@@ -3,17 +3,17 @@
 -- Assumes nothing.
 use Rattle.laws.specs.Prelude.{ℕ, _<_, _≤_, _+_, _-_, _^_, suc, zero, _≡_, _∙_, sym, ap, refl, _↔_, by-cases, true, false, Bool, _&&_, not, true≢false}
 use Rattle.laws.specs.Prelude.{and-eq-true-iff, _||_, and-false, and-true, or-true, or-false, and-or-distrib-right, le-antisymm, ℕ-discrete, arith, eqb}
-use Rattle.laws.specs.Prelude.{eqb-true, pow-pos}
-use Rattle.rules.specs.Sheets.Sheets.{level}
+use Rattle.laws.specs.Prelude.{eqb-true, pow-pos, test-cases}
 use Rattle.rules.specs.Groups.Groups.{member, multiplicity, wholeGroup}
 use Rattle.rules.specs.Groups.Marks.{inside, marksOf}
 use Rattle.rules.specs.Nets.Filling.{classNumber}
-use Rattle.rules.specs.Nets.Wirings.{Wiring, input, gate, groupOf, gatesIn, firstInput}
-use Rattle.rules.specs.Nets.Settled.{settledWiring}
 use Rattle.rules.specs.Nets.Leaves.{matters, leavesOf}
+use Rattle.rules.specs.Nets.Settled.{settledWiring}
+use Rattle.rules.specs.Nets.Trees.{Apart, EachOnce}
+use Rattle.rules.specs.Nets.Wirings.{Wiring, input, gate, groupOf, gatesIn, firstInput}
+use Rattle.rules.specs.Sheets.Sheets.{level}
 use Rattle.laws.specs.Lists.Tests.{not-true-false, or-false-iff}
 use Rattle.trees.specs.Trees.Trees.{WiringOf, EachGate, mix}
-use Rattle.rules.specs.Nets.Trees.{Apart, EachOnce}
 use Rattle.trees.specs.Groups.Members.{member-ext, member-zero, member-single, member-join, member-rest, member-whole, member-inside}
 use Rattle.trees.specs.Groups.Members.{inside-member, inside-join, inside-le, first-member, single-below, join-below, whole-below, size-single}
 use Rattle.trees.specs.Groups.Levels.{level-mix-in, level-mix-out, mix-below}
@@ -85,23 +85,21 @@ module _ (m n : ℕ) (pos : 0 < m) (f : ℕ → ℕ) where
   -- for a leaf
   leaf-left : (g i : ℕ) → i < n → Left g (input i)
   unfolding groupOf
-  leaf-left g i i< = go (member i g) refl
+  leaf-left g i i< = test-cases (member i g)
+      (λ e.
+      some-left (input i)
+      record {
+        once = i<;
+        members = λ j j<. rw (member-single j i) (sym (at true e j (eqb j i) refl ∙ and-true (eqb j i)));
+        few = tt;
+        no-deeper = omega arith;
+        no-more = omega arith;
+      })
+      (λ e. none-left (λ j j<. rw (member-single j i) (at false e j (eqb j i) refl ∙ and-false (eqb j i))))
     where
       at : (b : Bool) → member i g ≡ b → (j : ℕ) (t : Bool) → eqb j i ≡ t → (t && member j g) ≡ (t && b)
       at b e j true same = rw (eqb-true j i same) e
       at b e j false same = refl
-
-      go : (b : Bool) → member i g ≡ b → Left g (input i)
-      go true e =
-          some-left (input i)
-          record {
-            once = i<;
-            members = λ j j<. rw (member-single j i) (sym (at true e j (eqb j i) refl ∙ and-true (eqb j i)));
-            few = tt;
-            no-deeper = omega arith;
-            no-more = omega arith;
-          }
-      go false e = none-left (λ j j<. rw (member-single j i) (at false e j (eqb j i) refl ∙ and-false (eqb j i)))
 
   -- for a gate, by what is left on its two sides
   module _ (g : ℕ) (a b : Wiring) (once : EachOnce n (gate a b)) where
@@ -116,37 +114,34 @@ module _ (m n : ℕ) (pos : 0 < m) (f : ℕ → ℕ) where
     -- only one side is left
     left-side : (v : Wiring) → Kept g a v → ((i : ℕ) → i < n → (member i (groupOf b) && member i g) ≡ false) → Kept g (gate a b) v
     unfolding depth gatesIn
-    left-side v kept none =
-        record {
-          once = kept .once;
-          members = λ i i<. kept .members i i< ∙ sym (gate-meets i i< ∙ rw (none i i<) (or-false (member i (groupOf a) && member i g)));
-          few = kept .few;
-          no-deeper = omega (arith, kept .no-deeper);
-          no-more = omega (arith, kept .no-more);
-        }
+    left-side v kept none = record {
+      once = kept .once;
+      members = λ i i<. kept .members i i< ∙ sym (gate-meets i i< ∙ rw (none i i<) (or-false (member i (groupOf a) && member i g)));
+      few = kept .few;
+      no-deeper = omega (arith, kept .no-deeper);
+      no-more = omega (arith, kept .no-more);
+    }
 
     right-side : (v : Wiring) → ((i : ℕ) → i < n → (member i (groupOf a) && member i g) ≡ false) → Kept g b v → Kept g (gate a b) v
     unfolding depth gatesIn
-    right-side v none kept =
-        record {
-          once = kept .once;
-          members = λ i i<. kept .members i i< ∙ sym (gate-meets i i< ∙ rw (none i i<));
-          few = kept .few;
-          no-deeper = omega (arith, kept .no-deeper);
-          no-more = omega (arith, kept .no-more);
-        }
+    right-side v none kept = record {
+      once = kept .once;
+      members = λ i i<. kept .members i i< ∙ sym (gate-meets i i< ∙ rw (none i i<));
+      few = kept .few;
+      no-deeper = omega (arith, kept .no-deeper);
+      no-more = omega (arith, kept .no-more);
+    }
 
     -- both are left: a gate joins them, and its group has as many classes as the old gate's
     both-sides : (v u : Wiring) → Few m n f (groupOf (gate a b)) → Outside g (gate a b) → Kept g a v → Kept g b u → Kept g (gate a b) (gate v u)
     unfolding groupOf depth gatesIn
-    both-sides v u few outside left right =
-        record {
-          once = joined;
-          members = members-are;
-          few = (rw few-same few, left .few, right .few);
-          no-deeper = deep;
-          no-more = gates;
-        }
+    both-sides v u few outside left right = record {
+      once = joined;
+      members = members-are;
+      few = (rw few-same few, left .few, right .few);
+      no-deeper = (omega (arith, left .no-deeper, right .no-deeper));
+      no-more = (omega (arith, left .no-more, right .no-more));
+    }
       where
         joined : EachOnce n (gate v u)
         joined = (
@@ -166,12 +161,6 @@ module _ (m n : ℕ) (pos : 0 < m) (f : ℕ → ℕ) where
               part = member-inside n _ _ (λ i i< is. and-eq-true-iff _ _ .0 (sym (members-are i i<) ∙ is) .0);
               idle = λ i i< in-w out. outside i i< in-w (rw in-w at (sym (members-are i i<) ∙ out));
             }
-
-        deep : depth (gate v u) ≤ depth (gate a b)
-        deep = omega (arith, left .no-deeper, right .no-deeper)
-
-        gates : gatesIn (gate v u) ≤ gatesIn (gate a b)
-        gates = omega (arith, left .no-more, right .no-more)
 
     gate-left : Few m n f (groupOf (gate a b)) → Outside g (gate a b) → Left g a → Left g b → Left g (gate a b)
     gate-left few outside (none-left x) (none-left y) = none-left (λ i i<. gate-meets i i< ∙ rw (x i i<, y i i<))
@@ -207,28 +196,25 @@ module _ (m n : ℕ) (pos : 0 < m) (f : ℕ → ℕ) where
 
   -- inputs that do not matter may be cut out of a wiring
   pub cut : (w : Wiring) → EachOnce n w → EachGate (Few m n f) w → (g : ℕ) → 0 < g → g < 2 ^ n → Idle g (groupOf w) → CutWiring g w
-  cut w once few g some g< rest = go (what-is-left g w once few (rest .idle))
+  cut w once few g some g< rest = elim (what-is-left g w once few (rest .idle)) [
+    | none-left none ↦
+        let empty : g ≡ 0 = member-ext n g 0 g< (pow-pos n) (λ i i<. sym (all-in i i<) ∙ none i i< ∙ sym (member-zero i)) in
+        absurd (omega arith)
+    | some-left v kept ↦
+        record {
+          wiring = v;
+          of-group = (kept .once, member-ext n (groupOf v) g (group-below n v (kept .once)) g< (λ i i<. kept .members i i< ∙ all-in i i<));
+          few = kept .few;
+          no-deeper = kept .no-deeper;
+          no-more = kept .no-more;
+        }
+  ]
     where
       -- g's members are leaves
       all-in : (i : ℕ) → i < n → (member i (groupOf w) && member i g) ≡ member i g
-      all-in i i< = at (member i g) refl
-        where
-          at : (t : Bool) → member i g ≡ t → (member i (groupOf w) && t) ≡ t
-          at true e = rw (inside-member i n g (groupOf w) (rest .part) i< e)
-          at false e = and-false (member i (groupOf w))
-
-      go : Left g w → CutWiring g w
-      go (none-left none) =
-          let empty : g ≡ 0 = member-ext n g 0 g< (pow-pos n) (λ i i<. sym (all-in i i<) ∙ none i i< ∙ sym (member-zero i)) in
-          absurd (omega arith)
-      go (some-left v kept) =
-          record {
-            wiring = v;
-            of-group = (kept .once, member-ext n (groupOf v) g (group-below n v (kept .once)) g< (λ i i<. kept .members i i< ∙ all-in i i<));
-            few = kept .few;
-            no-deeper = kept .no-deeper;
-            no-more = kept .no-more;
-          }
+      all-in i i< = test-cases (member i g)
+          (λ e. rw (e, inside-member i n g (groupOf w) (rest .part) i< e))
+          (λ e. rw e (and-false (member i (groupOf w))))
 
   -- ---- attached to one
 
@@ -238,11 +224,9 @@ module _ (m n : ℕ) (pos : 0 < m) (f : ℕ → ℕ) where
   hang-one g i g< i< out idle two = (below, members, three-way m n pos f (g + 2 ^ i) below .parted few parts)
     where
       apart : Apart n g (2 ^ i)
-      apart j j< = rw (member-single j i) (at (eqb j i) refl)
-        where
-          at : (t : Bool) → eqb j i ≡ t → (member j g && t) ≡ false
-          at true e = rw (eqb-true j i e, out)
-          at false e = and-false (member j g)
+      apart j j< = rw (member-single j i) (test-cases (eqb j i)
+          (λ e. rw (e, eqb-true j i e, out))
+          (λ e. rw e (and-false (member j g))))
 
       below : g + 2 ^ i < 2 ^ n
       below = join-below n g (2 ^ i) g< (single-below i n i<) apart
@@ -251,27 +235,25 @@ module _ (m n : ℕ) (pos : 0 < m) (f : ℕ → ℕ) where
       members j j< = member-join j n g (2 ^ i) g< (single-below i n i<) apart j< ∙ ap (λ t. member j g || t) (member-single j i)
 
       rest : Idle g (g + 2 ^ i)
-      rest =
-          record {
-            part = inside-join n g (2 ^ i) g< (single-below i n i<) apart;
-            idle = λ j j< is out-j. rw (eqb-true j i (rw out-j at (sym (members j j<) ∙ is))) idle;
-          }
+      rest = record {
+        part = inside-join n g (2 ^ i) g< (single-below i n i<) apart;
+        idle = λ j j< is out-j. rw (eqb-true j i (rw out-j at (sym (members j j<) ∙ is))) idle;
+      }
 
       few : multiplicity m n f (g + 2 ^ i) ≤ m
       few = rw (← (idle-few g (g + 2 ^ i) g< below rest)) (two-says m n pos f g g< two .few)
 
       parts : PartsIntoTwos n (marked m n pos f) (g + 2 ^ i)
-      parts =
-          record {
-            a = g;
-            b = 2 ^ i;
-            joined = refl;
-            apart = apart;
-            some-a = two-says m n pos f g g< two .some;
-            some-b = pow-pos i;
-            two-a = two;
-            two-b = three-way m n pos f (2 ^ i) (single-below i n i<) .single (size-single i n i<);
-          }
+      parts = record {
+        a = g;
+        b = 2 ^ i;
+        joined = refl;
+        apart = apart;
+        some-a = two-says m n pos f g g< two .some;
+        some-b = pow-pos i;
+        two-a = two;
+        two-b = three-way m n pos f (2 ^ i) (single-below i n i<) .single (size-single i n i<);
+      }
 
   -- one after another
   hang : (k g h : ℕ) → h ≤ g + k → g < 2 ^ n → h < 2 ^ n → Idle g h → marked m n pos f g ≡ 2 → marked m n pos f h ≡ 2
@@ -289,11 +271,10 @@ module _ (m n : ℕ) (pos : 0 < m) (f : ℕ → ℕ) where
       hang k (g + 2 ^ i) h (omega (arith, pow-pos i)) (next .0) h< (onward i (is .0) (next .1)) (next .2)
     where
       onward : (i : ℕ) → member i h ≡ true → ((j : ℕ) → j < n → member j (g + 2 ^ i) ≡ (member j g || eqb j i)) → Idle (g + 2 ^ i) h
-      onward i is members =
-          record {
-            part = member-inside n _ _ (λ j j< e. at j j< (member j g) refl (sym (members j j<) ∙ e));
-            idle = λ j j< in-h out. rest .idle j j< in-h (or-false-iff _ _ .0 (sym (members j j<) ∙ out) .0);
-          }
+      onward i is members = record {
+        part = member-inside n _ _ (λ j j< e. at j j< (member j g) refl (sym (members j j<) ∙ e));
+        idle = λ j j< in-h out. rest .idle j j< in-h (or-false-iff _ _ .0 (sym (members j j<) ∙ out) .0);
+      }
         where
           at : (j : ℕ) → j < n → (t : Bool) → member j g ≡ t → (member j g || eqb j i) ≡ true → member j h ≡ true
           at j j< true in-g e = inside-member j n g h (rest .part) j< in-g

@@ -2,15 +2,15 @@
 -- matters if two or more inputs do; and no net that computes the table, whatever its leaves, its wiring and its digits, has fewer gates.
 -- Assumes nothing.
 use Rattle.laws.specs.Prelude.{ℕ, _<_, _≤_, _^_, suc, _≡_, _∙_, sym, ap, by-cases, List, decLt, arith, length}
-use Rattle.rules.specs.Sheets.Sheets.{Gate}
 use Rattle.rules.specs.Groups.Groups.{size, wholeGroup}
 use Rattle.rules.specs.Groups.Marks.{marksOf}
-use Rattle.rules.specs.Nets.Wirings.{Wiring, groupOf, gatesIn}
 use Rattle.rules.specs.Nets.Leaves.{mattering, leavesOf}
 use Rattle.rules.specs.Nets.Settled.{settledGates}
-use Rattle.rules.specs.Sheets.SheetRules.{IsNet}
-use Rattle.trees.specs.Trees.Trees.{EachGate}
 use Rattle.rules.specs.Nets.Trees.{Tree, wiringIn, treeValue, EachOnce, Computes, GateTree}
+use Rattle.rules.specs.Nets.Wirings.{Wiring, groupOf, gatesIn}
+use Rattle.rules.specs.Sheets.SheetRules.{IsNet}
+use Rattle.rules.specs.Sheets.Sheets.{Gate}
+use Rattle.trees.specs.Trees.Trees.{EachGate}
 use Rattle.trees.specs.Groups.Members.{member-inside}
 use Rattle.trees.specs.Groups.Classes.{Few}
 use Rattle.trees.specs.Trees.Wirings.{gates-in-size}
@@ -25,11 +25,10 @@ use Rattle.trees.specs.Trees.Existence.{tree-few, computes-holds, net-fe
 module _ (m n : ℕ) (pos : 0 < m) (several : 1 < n) (f : ℕ → ℕ) where
   -- if two or more inputs matter and g holds all that matter, the leaves are inside g and the rest of g does not matter
   pub leaves-idle : 1 < length (mattering m n f) → (g : ℕ) → Holding m n pos f g → Idle m n pos f (leavesOf m n f) g
-  leaves-idle enough g holds =
-      record {
-        part = member-inside n (leavesOf m n f) g (λ i i< is. holds i i< (sym (leaves-matter m n pos f enough i i<) ∙ is));
-        idle = λ i i< is out. sym (leaves-matter m n pos f enough i i<) ∙ out;
-      }
+  leaves-idle enough g holds = record {
+    part = member-inside n (leavesOf m n f) g (λ i i< is. holds i i< (sym (leaves-matter m n pos f enough i i<) ∙ is));
+    idle = λ i i< is out. sym (leaves-matter m n pos f enough i i<) ∙ out;
+  }
 
   -- a wiring with a gate, with few classes at each gate and with every input that matters, has at least as many leaves as the table
   pub wiring-gates-least : (w : Wiring) → EachOnce n w → 0 < gatesIn w → EachGate (Few m n f) w → Holding m n pos f (groupOf w)

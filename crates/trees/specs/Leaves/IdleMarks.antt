@@ -2,10 +2,10 @@
 -- groups of inputs that matter need to be marked by document 01's rule.
 -- Assumes nothing.
 use Rattle.laws.specs.Prelude.{ℕ, _<_, _≤_, _^_, _≡_, _∙_, sym, ap, refl, by-cases, true, false, Bool, true≢false, cond, decLt, arith, eqb, eq-eqb, ne-eqb}
-use Rattle.rules.specs.Sheets.Sheets.{level}
 use Rattle.rules.specs.Groups.Groups.{member, part, multiplicity}
-use Rattle.rules.specs.Nets.Wirings.{firstInput}
 use Rattle.rules.specs.Nets.Leaves.{matters}
+use Rattle.rules.specs.Nets.Wirings.{firstInput}
+use Rattle.rules.specs.Sheets.Sheets.{level}
 use Rattle.laws.specs.Lists.Tests.{not-true-false}
 use Rattle.trees.specs.Trees.Trees.{Alike}
 use Rattle.trees.specs.Groups.Members.{member-zero, inside-member, inside-le, single-below, size-single, first-member}
@@ -32,13 +32,12 @@ module _ (m n : ℕ) (pos : 0 < m) (f : ℕ → ℕ) where
 
   -- assignments that cover a group also cover it with idle inputs added
   pub idle-covers : (g h : ℕ) → g < 2 ^ n → h < 2 ^ n → Idle m n pos f g h → (c : ℕ) (e : ℕ → ℕ) → Covers m n f g c e → Covers m n f h c e
-  idle-covers g h g< h< rest c e cover =
-      record {
-        own = λ k k<. own (e k) (cover .own k k<);
-        every = λ p.
-            let (k, k<, like) = cover .every p in
-            (k, k<, λ y. sym (idle-mix m n pos f g h g< h< rest p y) ∙ like y ∙ idle-mix m n pos f g h g< h< rest (e k) y);
-      }
+  idle-covers g h g< h< rest c e cover = record {
+    own = λ k k<. own (e k) (cover .own k k<);
+    every = λ p.
+        let (k, k<, like) = cover .every p in
+        (k, k<, λ y. sym (idle-mix m n pos f g h g< h< rest p y) ∙ like y ∙ idle-mix m n pos f g h g< h< rest (e k) y);
+  }
     where
       own : (x : ℕ) → part m n g x ≡ x → part m n h x ≡ x
       own x x-own = level-ext m n pos (part m n h x) x (part-below m n pos h x) (rw x-own at (part-below m n pos g x)) (λ i i<. at i i< (member i h) refl)

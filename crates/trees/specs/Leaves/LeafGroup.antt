@@ -1,13 +1,14 @@
 -- The leaves of a table (document 02, K12) as a group: "A settled tree now has just the inputs that matter as leaves; if fewer than two do, the
 -- first-listed others make up two." They are distinct inputs, so the sum of their powers is the group of exactly these inputs.
 -- Assumes nothing.
-use Rattle.laws.specs.Prelude.{ℕ, _<_, _+_, _-_, _^_, suc, zero, max, _≡_, _∙_, sym, ap, refl, subst, ⊎-elim, true, false, Bool, _&&_, not, true≢false}
-use Rattle.laws.specs.Prelude.{List, [], _∷_, _++_, map, List·Memᴰ, append-nil, List·Memᴰ·head, List·Memᴰ·tail, List·Memᴰ·append-cases, Memᴰ·append-left}
-use Rattle.laws.specs.Prelude.{arith, eqb, length, take, drop, length-append, length-take, take-append-drop, eq-eqb, eqb-true, pow-pos}
-use Rattle.rules.specs.Lists.{range, any, those, total}
-use Rattle.rules.specs.Sheets.SheetRules.{Distinct}
+use Rattle.laws.specs.Prelude.{ℕ, _<_, _+_, _-_, _^_, suc, zero, max, _≡_, _∙_, sym, ap, refl, subst, ⊎-elim, true, false, Bool, _&&_, not, true≢false, List}
+use Rattle.laws.specs.Prelude.{[], _∷_, _++_, map, List·Memᴰ, append-nil, List·Memᴰ·head, List·Memᴰ·tail, List·Memᴰ·append-cases, Memᴰ·append-left, arith}
+use Rattle.laws.specs.Prelude.{eqb, length, take, drop, length-append, length-take, take-append-drop, eq-eqb, eqb-true, pow-pos}
 use Rattle.rules.specs.Groups.Groups.{member, size}
+use Rattle.rules.specs.Lists.{range, any, those, total}
 use Rattle.rules.specs.Nets.Leaves.{matters, mattering, leafInputs, leavesOf}
+use Rattle.rules.specs.Nets.Trees.{Apart}
+use Rattle.rules.specs.Sheets.SheetRules.{Distinct}
 use Rattle.laws.specs.Lists.Tests.{oneWhere, not-true-false, two-ways, any-cons, none-append, mem-any}
 use Rattle.laws.specs.Lists.Ranges.{mem-range, range-mem, range-length}
 use Rattle.laws.specs.Lists.Counts.{count, count-cons}
@@ -15,7 +16,6 @@ use Rattle.laws.specs.Lists.Distinct.{NotIn}
 use Rattle.laws.specs.Lists.Finds.{those-mem}
 use Rattle.laws.specs.Lists.Listed.{mem-those, those-pass}
 use Rattle.laws.specs.Lists.Totals.{any-mem, those-range-distinct}
-use Rattle.rules.specs.Nets.Trees.{Apart}
 use Rattle.trees.specs.Groups.Members.{member-single, member-zero, member-join, single-below, join-below, size-zero, size-single, size-join}
 use Rattle.trees.specs.Leaves.Mattering.{Holding}
 

@@ -1,13 +1,13 @@
 -- What it means that an input matters (document 02, K12): "An input matters when some two assignments differing only there differ in ink." So two
 -- assignments that agree at every input that matters have the same ink, and a group that holds those inputs determines the ink.
 -- Assumes nothing.
-use Rattle.laws.specs.Prelude.{ℕ, _<_, _≤_, _^_, suc, zero, _≡_, _∙_, sym, ap, refl, _↔_, _≢_, by-cases, true, false, Bool, not, true≢false, List}
-use Rattle.laws.specs.Prelude.{List·Memᴰ, decLt, ℕ-discrete, arith, getD, eq-eqb, ne-eqb, eqb-false}
-use Rattle.rules.specs.Lists.{any, all, firstPlace}
-use Rattle.rules.specs.Sheets.Sheets.{level}
+use Rattle.laws.specs.Prelude.{ℕ, _<_, _≤_, _^_, suc, zero, _≡_, _∙_, sym, ap, refl, _↔_, _≢_, by-cases, true, false, Bool, not, true≢false, List, List·Memᴰ}
+use Rattle.laws.specs.Prelude.{decLt, ℕ-discrete, arith, getD, eq-eqb, ne-eqb, eqb-false, test-cases}
 use Rattle.rules.specs.Groups.Groups.{member, part, points, others, alike, alikeOver, multiplicity}
+use Rattle.rules.specs.Lists.{any, all, firstPlace}
 use Rattle.rules.specs.Nets.Filling.{classNumber}
 use Rattle.rules.specs.Nets.Leaves.{matters}
+use Rattle.rules.specs.Sheets.Sheets.{level}
 use Rattle.laws.specs.Lists.Tests.{not-false-true, none-mem, mem-all}
 use Rattle.laws.specs.Lists.Places.{mem-getD}
 use Rattle.laws.specs.Lists.FirstPlaces.{first-passing}
@@ -46,11 +46,9 @@ module _ (m n : ℕ) (pos : 0 < m) (f : ℕ → ℕ) where
   -- an index with q's levels at g and p's elsewhere is q, if p and q agree elsewhere
   pub mix-is : (g p q : ℕ) → g < 2 ^ n → q < m ^ n → ((j : ℕ) → j < n → member j g ≡ false → level m n p j ≡ level m n q j) → mix m n g q p ≡ q
   mix-is g p q g< q< agree =
-      level-ext m n pos (mix m n g q p) q (mix-below m n pos g q p g<) q< (λ j j<. go j j< (member j g) refl)
-    where
-      go : (j : ℕ) → j < n → (t : Bool) → member j g ≡ t → level m n (mix m n g q p) j ≡ level m n q j
-      go j j< true e = level-mix-in m n pos g q p j g< j< e
-      go j j< false e = level-mix-out m n pos g q p j g< j< e ∙ agree j j< e
+      level-ext m n pos (mix m n g q p) q (mix-below m n pos g q p g<) q< (λ j j<. test-cases (member j g)
+      (λ e. level-mix-in m n pos g q p j g< j< e)
+      (λ e. level-mix-out m n pos g q p j g< j< e ∙ agree j j< e))
 
   -- ---- the meaning
 
@@ -128,7 +126,13 @@ module _ (m n : ℕ) (pos : 0 < m) (f : ℕ → ℕ) where
 
   -- one more input: if it matters, they agree there too; if not, p may take q's level there
   one-more : (k : ℕ) → k < n → OneInkFrom k → OneInkFrom (suc k)
-  one-more k k< before p q p< q< later agree = go (matters m n f k) refl
+  one-more k k< before p q p< q< later agree = test-cases (matters m n f k)
+      (λ is. before p q p< q< (λ j j< k≤j. by-cases (ℕ-discrete j k) (λ e. agree j j< (rw e is)) (λ ne. later j j< (omega arith))) agree)
+      (λ idle.
+      idle-same k k< idle p r p< (mix-below m n pos (2 ^ k) q p k-below) (λ j j< ne. sym (at-other j j< ne))
+      ∙ before r q (mix-below m n pos (2 ^ k) q p k-below) q<
+      (λ j j< k≤j. as-p j j< (λ ne. later j j< (omega arith)))
+      (λ j j< is. as-p j j< (λ ne. agree j j< is)))
     where
       r : ℕ
       r = mix m n (2 ^ k) q p
@@ -145,15 +149,6 @@ module _ (m n : ℕ) (pos : 0 < m) (f : ℕ → ℕ) where
       -- r agrees with q wherever p does, and at k
       as-p : (j : ℕ) → j < n → (j ≢ k → level m n p j ≡ level m n q j) → level m n r j ≡ level m n q j
       as-p j j< same = by-cases (ℕ-discrete j k) (λ e. rw e at-k) (λ ne. at-other j j< ne ∙ same ne)
-
-      go : (t : Bool) → matters m n f k ≡ t → f p ≡ f q
-      go true is =
-          before p q p< q< (λ j j< k≤j. by-cases (ℕ-discrete j k) (λ e. agree j j< (rw e is)) (λ ne. later j j< (omega arith))) agree
-      go false idle =
-          idle-same k k< idle p r p< (mix-below m n pos (2 ^ k) q p k-below) (λ j j< ne. sym (at-other j j< ne))
-          ∙ before r q (mix-below m n pos (2 ^ k) q p k-below) q<
-          (λ j j< k≤j. as-p j j< (λ ne. later j j< (omega arith)))
-          (λ j j< is. as-p j j< (λ ne. agree j j< is))
 
   one-ink : (k : ℕ) → k ≤ n → OneInkFrom k
   one-ink zero k≤ p q p< q< later agree = ap f (level-ext m n pos p q p< q< (λ j j<. later j j< (omega arith)))

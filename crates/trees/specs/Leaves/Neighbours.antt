@@ -2,13 +2,13 @@
 -- there, and by one level: their difference is the input's weight.
 -- Assumes nothing.
 use Rattle.laws.specs.Prelude.{ℕ, _<_, _+_, _-_, _^_, suc, _*_, zero, _%_, _/_, _≡_, _∙_, sym, ap, refl, true, false, Bool, not, cond, List, [], _∷_, map}
-use Rattle.laws.specs.Prelude.{List·Memᴰ, append-nil, map-map, Memᴰ·of-map, zero-add, add-zero, zero-mul, pow-suc, suc-mul, pow-zero, div-add-mod'}
-use Rattle.laws.specs.Prelude.{mul-one, one-le-pow, le-refl, mul-assoc, one-mul, le-step, zero-div, zero-mod, mul-add-div-right, add-one, decLt, arith}
-use Rattle.laws.specs.Prelude.{eq-eqb, eqb-true, ne-eqb, digits-mod}
-use Rattle.rules.specs.Lists.{range, concatMap}
-use Rattle.rules.specs.Sheets.Sheets.{level}
+use Rattle.laws.specs.Prelude.{List·Memᴰ, append-nil, map-map, Memᴰ·of-map, zero-add, add-zero, zero-mul, pow-suc, suc-mul, pow-zero, div-add-mod', mul-one}
+use Rattle.laws.specs.Prelude.{one-le-pow, le-refl, mul-assoc, one-mul, le-step, zero-div, zero-mod, mul-add-div-right, add-one, decLt, arith, eq-eqb}
+use Rattle.laws.specs.Prelude.{eqb-true, ne-eqb, digits-mod}
 use Rattle.rules.specs.Groups.Groups.{member, points, part, others, alike, alikeOver}
+use Rattle.rules.specs.Lists.{range, concatMap}
 use Rattle.rules.specs.Nets.Leaves.{matters}
+use Rattle.rules.specs.Sheets.Sheets.{level}
 use Rattle.laws.specs.Lists.Tests.{all-mem, mem-all, mem-none, mem-any, not-true-false}
 use Rattle.laws.specs.Lists.Concat.{map-same, concat-single}
 use Rattle.laws.specs.Lists.Ranges.{range-mem}
@@ -35,19 +35,18 @@ levelPoints m w = map (λ l. l * w) (range 0 m)
 pub points-single : (m n i : ℕ) → i < n → points m n (2 ^ i) ≡ levelPoints m (m ^ (n - 1 - i))
 unfolding points concatMap
 points-single m zero i h = absurd (omega arith)
-points-single m (suc n) i h = go (decLt i n) (points-single m n i)
-  where
-    go : Dec (i < n) → (i < n → points m n (2 ^ i) ≡ levelPoints m (m ^ (n - 1 - i))) → points m (suc n) (2 ^ i) ≡ levelPoints m (m ^ (suc n - 1 - i))
-    go (yes less) before =
-        let next : suc n - 1 - i ≡ suc (n - 1 - i) = omega arith in
-        rw (member-single n i, ne-eqb n i (λ e. omega arith), concat-single (λ p. p * m), before less, next, pow-suc)
-        (map-map (λ p. p * m) (λ l. l * m ^ (n - 1 - i)) (range 0 m) ∙ map-same _ _ (λ l. mul-assoc l (m ^ (n - 1 - i)) m) (range 0 m))
-    go (no last) before =
-        let same : i ≡ n = omega arith in
-        let none : suc n - 1 - i ≡ 0 = omega arith in
-        let empty = points-none m n (2 ^ i) (λ j h. member-single j i ∙ ne-eqb j i (λ e. omega arith)) in
-        rw (member-single n i, eq-eqb n i (sym same), empty, none)
-        (append-nil (map (λ l. 0 * m + l) (range 0 m)) ∙ map-same _ _ (level-alone m) (range 0 m))
+points-single m (suc n) i h = elim (decLt i n) [
+  | yes less ↦
+      let next : suc n - 1 - i ≡ suc (n - 1 - i) = omega arith in
+      rw (member-single n i, ne-eqb n i (λ e. omega arith), concat-single (λ p. p * m), points-single m n i less, next, pow-suc)
+      (map-map (λ p. p * m) (λ l. l * m ^ (n - 1 - i)) (range 0 m) ∙ map-same _ _ (λ l. mul-assoc l (m ^ (n - 1 - i)) m) (range 0 m))
+  | no last ↦
+      let same : i ≡ n = omega arith in
+      let none : suc n - 1 - i ≡ 0 = omega arith in
+      let empty = points-none m n (2 ^ i) (λ j h. member-single j i ∙ ne-eqb j i (λ e. omega arith)) in
+      rw (member-single n i, eq-eqb n i (sym same), empty, none)
+      (append-nil (map (λ l. 0 * m + l) (range 0 m)) ∙ map-same _ _ (level-alone m) (range 0 m))
+]
 
 -- ---- neighbours
 

@@ -3,12 +3,12 @@
 -- Assumes nothing.
 use Rattle.laws.specs.Prelude.{ℕ, _<_, _+_, _-_, _≡_, _∙_, sym, ap, _≢_, List, [], _∷_, _++_, map, append-assoc, append-nil, arith, length, length-map}
 use Rattle.laws.specs.Prelude.{List·getD-append}
-use Rattle.rules.specs.Lists.{concatMap}
-use Rattle.rules.specs.Text.{space, newline, text, digitByte}
-use Rattle.rules.specs.Sheets.Sheets.{Header, Gate, referenceText}
-use Rattle.rules.specs.Sheets.Printed.{line, firstLines, printedGate, printedNet}
-use Rattle.rules.specs.Groups.Groups.{member}
 use Rattle.rules.specs.Calls.Keeping.{tableAt, changedGates}
+use Rattle.rules.specs.Groups.Groups.{member}
+use Rattle.rules.specs.Lists.{concatMap}
+use Rattle.rules.specs.Sheets.Printed.{line, firstLines, printedGate, printedNet}
+use Rattle.rules.specs.Sheets.Sheets.{Header, Gate, referenceText}
+use Rattle.rules.specs.Text.{space, newline, text, digitByte}
 use Rattle.laws.specs.Lists.Tests.{two-ways}
 use Rattle.laws.specs.Lists.Concat.{map-append, concat-append}
 use Rattle.laws.specs.Lists.Places.{length-snoc}
@@ -84,11 +84,10 @@ pub but-last-printed : (header : Header) (gates others : List Gate) → (but : B
     → ButLastField (printedNet (record { header = header; gates = gates })) (printedNet (record { header = header; gates = others }))
     (map digitByte (but .last .digits)) (map digitByte (but .digits))
 unfolding sheetFront lineFront
-but-last-printed header gates others but =
-    record {
-      front = sheetFront header (but .before) (but .last);
-      ours = ap (λ (l : List Gate). printedNet (record { header = header; gates = l })) (but .ours) ∙ sheet-is header (but .before) (but .last);
-      theirs =
-          ap (λ (l : List Gate). printedNet (record { header = header; gates = l })) (but .theirs)
-          ∙ sheet-is header (but .before) (withTable (but .last) (but .digits));
-    }
+but-last-printed header gates others but = record {
+  front = sheetFront header (but .before) (but .last);
+  ours = ap (λ (l : List Gate). printedNet (record { header = header; gates = l })) (but .ours) ∙ sheet-is header (but .before) (but .last);
+  theirs =
+      ap (λ (l : List Gate). printedNet (record { header = header; gates = l })) (but .theirs)
+      ∙ sheet-is header (but .before) (withTable (but .last) (but .digits));
+}

@@ -1,14 +1,14 @@
 -- "When made, their gate lines agree in left and right throughout and in every table but the last. The last tables differ by that renaming at each
 -- digit that some assignment reaches." (document 02, K14): for any wiring that can be filled.
 -- Assumes nothing.
-use Rattle.laws.specs.Prelude.{ℕ, _<_, _+_, _-_, _^_, _*_, _%_, _/_, _≡_, _∙_, sym, ap, refl, subst, ap₂, fun-ext, _≢_, true, false, List, [], _∷_, _++_}
-use Rattle.laws.specs.Prelude.{mod-lt, div-lt-iff-lt-mul, div-add-mod', arith, eqb, length, getD}
-use Rattle.rules.specs.Lists.{firstPlace, withEach}
-use Rattle.rules.specs.Sheets.Sheets.{Gate, level, levelsAt}
-use Rattle.rules.specs.Nets.Value.{gateValue, withGates}
+use Rattle.laws.specs.Prelude.{ℕ, _<_, _+_, _^_, _*_, _%_, _/_, _≡_, _∙_, sym, ap, refl, subst, ap₂, fun-ext, _≢_, true, false, List, [], _∷_, _++_, mod-lt}
+use Rattle.laws.specs.Prelude.{div-lt-iff-lt-mul, div-add-mod', arith, eqb, length, getD}
 use Rattle.rules.specs.Groups.Groups.{part, points, others, size, classes, alikeOver}
-use Rattle.rules.specs.Nets.Wirings.{Link, firstInput}
+use Rattle.rules.specs.Lists.{firstPlace, withEach}
 use Rattle.rules.specs.Nets.Filling.{classNumber, carried, given, gateDigits, inputGroups, filledFrom, filled}
+use Rattle.rules.specs.Nets.Value.{gateValue, withGates}
+use Rattle.rules.specs.Nets.Wirings.{Link, firstInput}
+use Rattle.rules.specs.Sheets.Sheets.{Gate, level, levelsAt}
 use Rattle.trees.specs.Groups.SameTests.{place-same}
 use Rattle.trees.specs.Renaming.Renaming.{Renamed, SameInks, renamed-same, classes-of-points, alike-renamed, classes-renamed, multiplicity-renamed}
 use Rattle.trees.specs.Groups.Levels.{part-below}
@@ -125,6 +125,7 @@ module _ (m n : ℕ) (pos : 0 < m) (r f h : ℕ → ℕ) (below : (p : ℕ) → 
       → RenamedFrom m n r values (filledFrom m n f groups (l ∷ [])) (filledFrom m n h groups (l ∷ []))
   unfolding filledFrom withEach
   last-renamed groups values l carries may =
+      let own = lineGate m n f true groups l in
       record {
         lines = record { before = []; last = own; digits = gateDigits m n h true a b; ours = refl; theirs = refl };
         count = digits-count m n f true a b;
@@ -136,9 +137,6 @@ module _ (m n : ℕ) (pos : 0 < m) (r f h : ℕ → ℕ) (below : (p : ℕ) → 
             (λ p p< u v. none p p< (ap₂ (λ (x y : ℕ). x * m + y) (left p ∙ u) (right p ∙ v) ∙ div-add-mod' k m)));
       }
     where
-      own : Gate
-      own = lineGate m n f true groups l
-
       a : ℕ
       a = getD groups (l .left) 0
 

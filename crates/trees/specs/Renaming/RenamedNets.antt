@@ -2,18 +2,18 @@
 -- anew. The two nets are the same except for the last table, which is renamed (document 02, K14).
 -- Assumes nothing.
 use Rattle.laws.specs.Prelude.{ℕ, _<_, _^_, _≡_, refl, subst, List, arith, length-map}
-use Rattle.rules.specs.Sheets.Sheets.{Gate}
-use Rattle.rules.specs.Groups.Groups.{wholeGroup}
-use Rattle.rules.specs.Nets.Leaves.{leavesOf}
-use Rattle.rules.specs.Groups.Marks.{marksOf}
-use Rattle.rules.specs.Nets.Wirings.{Wiring, Link, linksOf}
-use Rattle.rules.specs.Nets.Filling.{filled}
-use Rattle.rules.specs.Nets.Settled.{settledGates}
-use Rattle.rules.specs.Nets.Shallow.{shallowGates}
-use Rattle.rules.specs.Nets.Family.{treeCount, familyGates}
 use Rattle.rules.specs.Calls.Keeping.{linkOf, gateLinks, keptGates}
-use Rattle.rules.specs.Sheets.SheetRules.{IsNet}
+use Rattle.rules.specs.Groups.Groups.{wholeGroup}
+use Rattle.rules.specs.Groups.Marks.{marksOf}
+use Rattle.rules.specs.Nets.Family.{treeCount, familyGates}
+use Rattle.rules.specs.Nets.Filling.{filled}
+use Rattle.rules.specs.Nets.Leaves.{leavesOf}
+use Rattle.rules.specs.Nets.Settled.{settledGates}
 use Rattle.rules.specs.Nets.Trees.{Computes}
+use Rattle.rules.specs.Nets.Wirings.{Wiring, Link, linksOf}
+use Rattle.rules.specs.Sheets.SheetRules.{IsNet}
+use Rattle.rules.specs.Sheets.Sheets.{Gate}
+use Rattle.rules.specs.Nets.Shallow.{shallowGates}
 use Rattle.trees.specs.Groups.MarkRule.{marked}
 use Rattle.trees.specs.Trees.Existence.{settled-net}
 use Rattle.trees.specs.Shallow.ShallowNet.{shallow-net}

@@ -3,18 +3,18 @@
 -- Assumes nothing.
 use Rattle.laws.specs.Prelude.{ℕ, _<_, _+_, _-_, suc, _≡_, _∙_, sym, ap, refl, ap₂, Bool, _&&_, not, List, [], _∷_, _++_, map, eqb, ltb, length, getD}
 use Rattle.laws.specs.Prelude.{length-map}
-use Rattle.rules.specs.Lists.{range, any, withEach}
-use Rattle.rules.specs.Sheets.Sheets.{Gate, Net, Table, usedBy}
-use Rattle.rules.specs.Nets.Leaves.{leavesOf}
-use Rattle.rules.specs.Groups.Marks.{marksOf}
-use Rattle.rules.specs.Nets.Wirings.{Wiring, Link, linksOf}
-use Rattle.rules.specs.Nets.Filling.{inputGroups, filledFrom, filled}
-use Rattle.rules.specs.Nets.Layers.{gateWays, withWays, waysOf, most, layers}
-use Rattle.rules.specs.Nets.Settled.{settledWiring}
-use Rattle.rules.specs.Nets.Shallow.{shallowWiring, shallowGates}
-use Rattle.rules.specs.Nets.Family.{countsOf, treeCount, familyWiring, gateGroups}
-use Rattle.rules.specs.Calls.Keeping.{linkOf, roomyGates, roomyBefore, leavesOut}
 use Rattle.rules.specs.Calls.Answers.{inkIn}
+use Rattle.rules.specs.Calls.Keeping.{linkOf, roomyGates, roomyBefore, leavesOut}
+use Rattle.rules.specs.Groups.Marks.{marksOf}
+use Rattle.rules.specs.Lists.{range, any, withEach}
+use Rattle.rules.specs.Nets.Family.{countsOf, treeCount, familyWiring, gateGroups}
+use Rattle.rules.specs.Nets.Filling.{inputGroups, filledFrom, filled}
+use Rattle.rules.specs.Nets.Leaves.{leavesOf}
+use Rattle.rules.specs.Nets.Settled.{settledWiring}
+use Rattle.rules.specs.Nets.Wirings.{Wiring, Link, linksOf}
+use Rattle.rules.specs.Sheets.Sheets.{Gate, Net, Table, usedBy}
+use Rattle.rules.specs.Nets.Layers.{gateWays, withWays, waysOf, most, layers}
+use Rattle.rules.specs.Nets.Shallow.{shallowWiring, shallowGates}
 use Rattle.laws.specs.Lists.Tests.{any-same}
 use Rattle.trees.specs.Filling.Fillings.{linkGroup}
 use Rattle.trees.specs.Keeping.KeptLinks.{filled-keeps}

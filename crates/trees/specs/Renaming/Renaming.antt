@@ -1,12 +1,12 @@
 -- "two full table sheets with the same first three lines, one got from the other by a one-to-one renaming of the ink levels" (document 02, K14).
 -- Alike compares inks only for equality, so everything derived from it is the same for both tables: classes, marks, the inputs that matter.
 -- Assumes nothing.
-use Rattle.laws.specs.Prelude.{ℕ, _<_, _+_, _^_, suc, zero, _≡_, _∙_, sym, ap, refl, not, List, [], List·Memᴰ, List·Memᴰ·not-nil}
-use Rattle.laws.specs.Prelude.{List·Memᴰ·eq-of-singleton, decLt, arith, eqb, length, eq-eqb, eqb-true}
-use Rattle.rules.specs.Lists.{range, those}
-use Rattle.rules.specs.Groups.Groups.{part, points, others, wholeGroup, alikeOver, alike, classes, multiplicity}
-use Rattle.rules.specs.Nets.Leaves.{matters, mattering, leafInputs, leavesOf}
+use Rattle.laws.specs.Prelude.{ℕ, _<_, _+_, _^_, suc, zero, _≡_, _∙_, sym, ap, refl, not, List, [], List·Memᴰ, List·Memᴰ·not-nil, List·Memᴰ·eq-of-singleton}
+use Rattle.laws.specs.Prelude.{decLt, arith, eqb, length, eq-eqb, eqb-true}
+use Rattle.rules.specs.Groups.Groups.{points, others, wholeGroup, alikeOver, alike, classes, multiplicity}
 use Rattle.rules.specs.Groups.Marks.{markOf, marksBelow, marksOf}
+use Rattle.rules.specs.Lists.{range, those}
+use Rattle.rules.specs.Nets.Leaves.{matters, mattering, leafInputs, leavesOf}
 use Rattle.laws.specs.Lists.Tests.{two-ways, any-same}
 use Rattle.laws.specs.Lists.Listed.{those-listed}
 use Rattle.trees.specs.Groups.SameTests.{all-same, firsts-same, firsts-have}
@@ -39,20 +39,15 @@ module _ (m n : ℕ) (pos : 0 < m) where
   -- a number that is no group leaves no other input
   pub sum-below : (g p y : ℕ) → List·Memᴰ p (points m n g) → List·Memᴰ y (points m n (others n g)) → p + y < m ^ n
   unfolding mix others wholeGroup
-  sum-below g p y p-in y-in = go (decLt g (2 ^ n))
-    where
-      p-is : (part m n g p ≡ p) × (p < m ^ n)
-      p-is = points-are-parts m n pos g p p-in
-
-      y-is : part m n (others n g) y ≡ y
-      y-is = points-are-parts m n pos (others n g) y y-in .0
-
-      go : Dec (g < 2 ^ n) → p + y < m ^ n
-      go (yes g<) = rw (p-is .0, y-is) at (mix-below m n pos g p y g<)
-      go (no past) =
-          let none : others n g ≡ 0 = omega arith in
-          let y-zero : y ≡ 0 = List·Memᴰ·eq-of-singleton (rw (none, points-empty m n pos) at y-in) in
-          omega (arith, p-is .1)
+  sum-below g p y p-in y-in =
+      let p-is = points-are-parts m n pos g p p-in in
+      elim (decLt g (2 ^ n)) [
+        | yes g< ↦ rw (p-is .0, points-are-parts m n pos (others n g) y y-in .0) at (mix-below m n pos g p y g<)
+        | no past ↦
+            let none : others n g ≡ 0 = omega arith in
+            let y-zero : y ≡ 0 = List·Memᴰ·eq-of-singleton (rw (none, points-empty m n pos) at y-in) in
+            omega (arith, p-is .1)
+      ]
 
   -- each of a group's classes is listed by one of the group's assignments
   pub classes-of-points : (f : ℕ → ℕ) (g q : ℕ) → List·Memᴰ q (classes m n f g) → List·Memᴰ q (points m n g)

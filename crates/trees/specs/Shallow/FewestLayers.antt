@@ -1,12 +1,12 @@
 -- The computed list of fewest layers: a group that splits into two groups of mark 2 has one layer more than the deeper part of its shallowest
 -- split; any other group has none. This holds for any marks.
 -- Assumes nothing.
-use Rattle.laws.specs.Prelude.{ℕ, _<_, _≤_, _+_, _-_, _^_, suc, zero, max, _≡_, _∙_, sym, ap, refl, ⊎-elim, _⊎_, inl, inr, true, false, Bool, List, []}
-use Rattle.laws.specs.Prelude.{_∷_, map, List·Memᴰ, List·Memᴰ·not-nil, Memᴰ·of-map, Memᴰ·map, add-one, ℕ-discrete, arith, length, getD, length-append}
-use Rattle.laws.specs.Prelude.{List·getD-append, getD-at}
-use Rattle.rules.specs.Lists.{range, those}
+use Rattle.laws.specs.Prelude.{ℕ, _<_, _≤_, _+_, _-_, _^_, suc, zero, max, _≡_, _∙_, sym, ap, refl, ⊎-elim, _⊎_, inl, inr, true, List, [], by-cases, _∷_, map}
+use Rattle.laws.specs.Prelude.{List·Memᴰ, List·Memᴰ·not-nil, Memᴰ·of-map, Memᴰ·map, add-one, ℕ-discrete, arith, length, getD, length-append, List·getD-append}
+use Rattle.laws.specs.Prelude.{getD-at, test-cases}
 use Rattle.rules.specs.Groups.Groups.{member, size}
 use Rattle.rules.specs.Groups.Marks.{markIn, partsAt}
+use Rattle.rules.specs.Lists.{range, those}
 use Rattle.rules.specs.Nets.Wirings.{firstInput}
 use Rattle.rules.specs.Nets.Shallow.{least, splitLayers, fewestOf, fewestBelow, fewestLayers}
 use Rattle.laws.specs.Lists.Ranges.{mem-range, range-mem}
@@ -47,13 +47,9 @@ module _ (n : ℕ) (marks : List ℕ) where
   entry-below : (k g : ℕ) → g < k → getD (fewestBelow n marks k) g 0 ≡ fewestOf n marks (fewestBelow n marks g) g
   unfolding fewestBelow
   entry-below zero g h = absurd (omega arith)
-  entry-below (suc k) g h = go (ℕ-discrete g k) (entry-below k g)
-    where
-      go : Dec (g ≡ k) → (g < k → getD (fewestBelow n marks k) g 0 ≡ fewestOf n marks (fewestBelow n marks g) g)
-          → getD (fewestBelow n marks (suc k)) g 0 ≡ fewestOf n marks (fewestBelow n marks g) g
-      go (yes e) below = rw e (getD-at (fewestBelow n marks k) _ [] 0 k (below-length k))
-      go (no ne) below =
-          List·getD-append (fewestBelow n marks k) _ 0 g (rw (below-length k) (omega arith)) ∙ below (omega arith)
+  entry-below (suc k) g h = by-cases (ℕ-discrete g k)
+      (λ e. rw e (getD-at (fewestBelow n marks k) _ [] 0 k (below-length k)))
+      (λ ne. List·getD-append (fewestBelow n marks k) _ 0 g (rw (below-length k) (omega arith)) ∙ entry-below k g (omega arith))
 
   -- the fewest layers of a group
   abbrev pub fewest : ℕ → ℕ
@@ -100,16 +96,14 @@ module _ (n : ℕ) (marks : List ℕ) where
     -- one of two parts holds the first-listed input
     first-side : (parts : PartsIntoTwos n (markIn marks) g) → 1 + max (fewest (parts .a)) (fewest (parts .b)) ≡ fewest g → Shallowest
     unfolding parts-swap
-    first-side parts attained = go (member (firstInput n g) (parts .a)) refl (first-member n g g< (omega arith))
-      where
-        go : (b : Bool) → member (firstInput n g) (parts .a) ≡ b → (firstInput n g < n) × (member (firstInput n g) g ≡ true) → Shallowest
-        go true holds first = record { parts = parts; holds-first = holds; attained = attained }
-        go false misses first =
-            record {
-              parts = parts-swap n _ g parts;
-              holds-first = in-other-part _ n _ g g< (first .0) (first .1) parts misses;
-              attained = omega arith;
-            }
+    first-side parts attained = test-cases (member (firstInput n g) (parts .a))
+        (λ holds. record { parts = parts; holds-first = holds; attained = attained })
+        (λ misses.
+        record {
+          parts = parts-swap n _ g parts;
+          holds-first = in-other-part _ n _ g g< ((first-member n g g< (omega arith)) .0) ((first-member n g g< (omega arith)) .1) parts misses;
+          attained = omega arith;
+        })
 
     -- a group without a split has none, ..
     -- .. and for any other some split attains the least

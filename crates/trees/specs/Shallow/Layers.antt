@@ -3,15 +3,15 @@
 use Rattle.laws.specs.Prelude.{ℕ, _<_, _≤_, _+_, _-_, suc, _≡_, _∙_, sym, ap, refl, true, false, List, [], _∷_, _++_, map, List·Memᴰ, map-map, add-zero}
 use Rattle.laws.specs.Prelude.{arith, length, length-append, length-map}
 use Rattle.rules.specs.Lists.{range}
-use Rattle.rules.specs.Sheets.Sheets.{Gate}
-use Rattle.rules.specs.Nets.Wirings.{Wiring, input, gate, gatesIn, linksOf}
 use Rattle.rules.specs.Nets.Filling.{filled}
-use Rattle.rules.specs.Nets.Layers.{gateWays, withWays, waysOf, most, layers}
+use Rattle.rules.specs.Nets.Trees.{Tree, leaf, node, wiringIn, EachOnce}
+use Rattle.rules.specs.Nets.Wirings.{Wiring, input, gate, gatesIn, linksOf}
 use Rattle.rules.specs.Sheets.SheetRules.{RefersBack, IsNet}
+use Rattle.rules.specs.Sheets.Sheets.{Gate}
+use Rattle.rules.specs.Nets.Layers.{gateWays, withWays, waysOf, most, layers}
 use Rattle.laws.specs.Lists.Places.{map-at}
 use Rattle.laws.specs.Lists.Extremes.{most-bounds, most-listed, most-append, most-suc}
 use Rattle.trees.specs.Trees.Trees.{fill}
-use Rattle.rules.specs.Nets.Trees.{Tree, leaf, node, wiringIn, EachOnce}
 use Rattle.laws.specs.Lists.WithEach.{with-each-length, gates-step}
 use Rattle.trees.specs.Trees.Forest.{treeAt, joinedTree, withTrees, inputTrees, inputs-length}
 use Rattle.trees.specs.Shallow.Depths.{depth}

@@ -2,15 +2,15 @@
 -- shallowest": this holds at each gate; it is a wiring of the group, as deep as the group's fewest layers; and no wiring of the group with few
 -- classes at each gate has fewer.
 -- Assumes nothing.
-use Rattle.laws.specs.Prelude.{ℕ, _<_, _≤_, _+_, _-_, _^_, max, _≡_, _∙_, sym, ap, _≢_, ⊎-elim, true, Bool, _&&_, and-eq-true-iff, List, le-of-eq, arith}
-use Rattle.laws.specs.Prelude.{eqb, eq-eqb, eqb-true}
+use Rattle.laws.specs.Prelude.{ℕ, _<_, _≤_, _+_, _-_, _^_, max, _≡_, _∙_, sym, ap, _≢_, ⊎-elim, true, Bool, _&&_, and-eq-true-iff, List, le-of-eq, arith, eqb}
+use Rattle.laws.specs.Prelude.{eq-eqb, eqb-true}
 use Rattle.rules.specs.Groups.Groups.{size}
 use Rattle.rules.specs.Groups.Marks.{inside, marksOf}
+use Rattle.rules.specs.Nets.Trees.{EachOnce}
 use Rattle.rules.specs.Nets.Wirings.{Wiring, input, gate, groupOf}
 use Rattle.rules.specs.Nets.Shallow.{splitLayers, fewestLayers, shallowSplit, shallowWiring}
 use Rattle.rules.specs.Nets.SettledLaws.{found-in-range, MayBeA, mayBeA, may-be-a, may-be}
 use Rattle.trees.specs.Trees.Trees.{EachGate, WiringOf}
-use Rattle.rules.specs.Nets.Trees.{EachOnce}
 use Rattle.trees.specs.Groups.Members.{member-inside, size-single, size-le}
 use Rattle.trees.specs.Groups.Classes.{Few}
 use Rattle.trees.specs.Trees.Wirings.{group-below}
@@ -125,8 +125,7 @@ module _ (m n : ℕ) (pos : 0 < m) (f : ℕ → ℕ) where
   AsShallow v = (w : Wiring) → WiringOf n (groupOf v) w → EachGate (Few m n f) w → depth v ≤ depth w
 
   as-shallow : (v : Wiring) → EachOnce n v → EachSplit TakesLowest v → AsShallow v
-  as-shallow v once takes w of few =
-      rw (depth-kept v once takes, ← (of .1)) (depth-at-least w (of .0) few)
+  as-shallow v once takes w of few = rw (depth-kept v once takes, ← (of .1)) (depth-at-least w (of .0) few)
 
   each-as-shallow : (v : Wiring) → EachOnce n v → EachSplit TakesLowest v → EachWithin AsShallow v
   each-as-shallow (input i) once takes = as-shallow (input i) once takes

@@ -2,17 +2,17 @@
 -- that table has at least as many layers", whatever its leaves.
 -- Assumes nothing.
 use Rattle.laws.specs.Prelude.{ℕ, _<_, _≤_, _^_, _≡_, _∙_, sym, by-cases, List, decLt, arith, length}
-use Rattle.rules.specs.Sheets.Sheets.{Gate}
 use Rattle.rules.specs.Groups.Groups.{wholeGroup}
 use Rattle.rules.specs.Groups.Marks.{marksOf}
-use Rattle.rules.specs.Nets.Wirings.{Wiring, input, gate, groupOf, gatesIn, linksOf}
 use Rattle.rules.specs.Nets.Filling.{filled}
 use Rattle.rules.specs.Nets.Leaves.{mattering, leavesOf}
+use Rattle.rules.specs.Nets.Trees.{Tree, wiringIn, treeValue, EachOnce, Computes, UsesJust, GateTree}
+use Rattle.rules.specs.Nets.Wirings.{Wiring, input, gate, groupOf, gatesIn, linksOf}
+use Rattle.rules.specs.Sheets.SheetRules.{IsNet}
+use Rattle.rules.specs.Sheets.Sheets.{Gate}
 use Rattle.rules.specs.Nets.Layers.{layers}
 use Rattle.rules.specs.Nets.Shallow.{shallowWiring, shallowGates}
-use Rattle.rules.specs.Sheets.SheetRules.{IsNet}
 use Rattle.trees.specs.Trees.Trees.{EachGate, WiringOf}
-use Rattle.rules.specs.Nets.Trees.{Tree, wiringIn, treeValue, EachOnce, Computes, UsesJust, GateTree}
 use Rattle.trees.specs.Groups.Classes.{Few}
 use Rattle.trees.specs.Trees.NetTree.{net-tree}
 use Rattle.trees.specs.Groups.MarkRule.{marked}

@@ -2,17 +2,17 @@
 -- other tree computing that table has at least as many layers"; its sheet is as long as the settled net's.
 -- Assumes nothing.
 use Rattle.laws.specs.Prelude.{ℕ, _<_, _≤_, _^_, _≡_, sym, refl, subst⁻¹, List, length}
-use Rattle.rules.specs.Sheets.Sheets.{Gate, Net, Table}
-use Rattle.rules.specs.Sheets.Printed.{printedNet}
-use Rattle.rules.specs.Nets.Layers.{layers}
-use Rattle.rules.specs.Sheets.SheetRules.{IsNet, NetRules, TableRules, FullTable}
-use Rattle.rules.specs.Nets.Leaves.{leavesOf}
 use Rattle.rules.specs.Calls.Answers.{inkIn}
-use Rattle.rules.specs.Sheets.Reading.{tableOfNet}
 use Rattle.rules.specs.Calls.Settling.{settledNet}
 use Rattle.rules.specs.Calls.ShallowSettling.{shallowNet, netLayers}
-use Rattle.laws.specs.Calls.Settling.{WholeTwo}
+use Rattle.rules.specs.Nets.Leaves.{leavesOf}
 use Rattle.rules.specs.Nets.Trees.{Tree, wiringIn, treeValue, Computes, GateTree}
+use Rattle.rules.specs.Sheets.Printed.{printedNet}
+use Rattle.rules.specs.Sheets.Reading.{tableOfNet}
+use Rattle.rules.specs.Sheets.SheetRules.{IsNet, NetRules, TableRules, FullTable}
+use Rattle.rules.specs.Sheets.Sheets.{Gate, Net, Table}
+use Rattle.rules.specs.Nets.Layers.{layers}
+use Rattle.laws.specs.Calls.Settling.{WholeTwo}
 use Rattle.trees.specs.Trees.Existence.{settled-net, settled-leaves}
 use Rattle.trees.specs.Trees.Uniqueness.{table-is, table-at}
 use Rattle.trees.specs.Trees.NetTables.{levels-pos, inputs-several, kept-table, net-full, net-whole-two}

@@ -2,10 +2,10 @@
 -- Assumes nothing.
 use Rattle.laws.specs.Prelude.{ℕ, _+_, _-_, _*_, _≡_, _∙_, sym, ap, ap₂, subst⁻¹, List, [], _∷_, map, arith, length, length-append, length-map}
 use Rattle.rules.specs.Lists.{range, concatMap, total}
-use Rattle.rules.specs.Sheets.Sheets.{Header, Gate, Net, referenceText, usedBy}
+use Rattle.rules.specs.Nets.Arrivals.{usedInputs}
 use Rattle.rules.specs.Sheets.Printed.{line, printedGate, printedNet}
 use Rattle.rules.specs.Sheets.SheetRules.{GateTable, Tables, IsNet, NetRules}
-use Rattle.rules.specs.Nets.Arrivals.{usedInputs}
+use Rattle.rules.specs.Sheets.Sheets.{Header, Gate, Net, referenceText, usedBy}
 use Rattle.trees.specs.Trees.UsedOnce.{used-sum, used-inputs-length}
 
 module _ (m : ℕ) (names : List (List ℕ)) where

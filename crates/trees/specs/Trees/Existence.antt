@@ -3,17 +3,17 @@
 -- is on the table's leaves, has the table.
 -- Assumes nothing.
 use Rattle.laws.specs.Prelude.{ℕ, _<_, _^_, _≡_, _∙_, sym, ap, _↔_, true, true≢false, List, arith}
-use Rattle.rules.specs.Sheets.Sheets.{Gate}
 use Rattle.rules.specs.Groups.Groups.{part, size, wholeGroup}
 use Rattle.rules.specs.Groups.Marks.{markIn, marksOf}
-use Rattle.rules.specs.Nets.Wirings.{Wiring, input, gate, groupOf, gatesIn, linksOf}
 use Rattle.rules.specs.Nets.Filling.{filled}
 use Rattle.rules.specs.Nets.Leaves.{leavesOf}
 use Rattle.rules.specs.Nets.Settled.{settledWiring, settledGates}
+use Rattle.rules.specs.Nets.Trees.{Tree, wiringIn, treeValue, EachOnce, Filled, Computes, UsesJust, TreeExists, LeafTree}
+use Rattle.rules.specs.Nets.Wirings.{Wiring, input, gate, groupOf, gatesIn, linksOf}
 use Rattle.rules.specs.Sheets.SheetRules.{IsNet}
+use Rattle.rules.specs.Sheets.Sheets.{Gate}
 use Rattle.laws.specs.Lists.Tests.{not-false-true}
 use Rattle.trees.specs.Trees.Trees.{mix, Tells, EachGate, WiringOf}
-use Rattle.rules.specs.Nets.Trees.{Tree, wiringIn, treeValue, EachOnce, Filled, Computes, UsesJust, TreeExists, LeafTree}
 use Rattle.trees.specs.Groups.Levels.{mix-below, part-mix, part-ext}
 use Rattle.trees.specs.Trees.NetTree.{net-tree, netWiring, netGroup, net-group-below}
 use Rattle.trees.specs.Groups.Classes.{Few}

@@ -3,12 +3,12 @@
 -- Assumes nothing.
 use Rattle.laws.specs.Prelude.{ℕ, _<_, _+_, _-_, _≡_, _∙_, ap, List, map, map-map, zero-add, arith, length, getD}
 use Rattle.rules.specs.Lists.{range, withEach}
-use Rattle.rules.specs.Sheets.Sheets.{Gate, levelsAt}
+use Rattle.rules.specs.Nets.Trees.{Tree, leaf, node, treeValue}
 use Rattle.rules.specs.Nets.Value.{gateValue, withGates, value, valueWith}
 use Rattle.rules.specs.Sheets.SheetRules.{RefersBack}
+use Rattle.rules.specs.Sheets.Sheets.{Gate, levelsAt}
 use Rattle.laws.specs.Lists.Places.{map-at}
 use Rattle.laws.specs.Lists.Ranges.{map-range-length, map-range-at}
-use Rattle.rules.specs.Nets.Trees.{Tree, leaf, node, treeValue}
 use Rattle.laws.specs.Lists.WithEach.{with-each-length, gates-step}
 
 -- the tree of a reference

@@ -2,13 +2,13 @@
 -- sheet and has the tree's value. `Fillings` proves that it is the filling of the wiring's links.
 -- Assumes nothing.
 use Rattle.laws.specs.Prelude.{ℕ, _<_, _+_, _≡_, _∙_, ap, refl, subst, ap₂, subst⁻¹, true, false, Bool, List, [], _∷_, _++_, arith}
-use Rattle.rules.specs.Sheets.Sheets.{Gate}
+use Rattle.rules.specs.Nets.Filling.{gateDigits}
+use Rattle.rules.specs.Nets.Trees.{wiringIn, EachOnce, Filled, treeValue, UsesJust}
 use Rattle.rules.specs.Nets.Value.{value}
 use Rattle.rules.specs.Nets.Wirings.{Wiring, input, gate, groupOf, gatesIn, referenceTo}
-use Rattle.rules.specs.Nets.Filling.{gateDigits}
 use Rattle.rules.specs.Sheets.SheetRules.{IsNet}
+use Rattle.rules.specs.Sheets.Sheets.{Gate}
 use Rattle.trees.specs.Trees.Trees.{fill}
-use Rattle.rules.specs.Nets.Trees.{wiringIn, EachOnce, Filled, treeValue, UsesJust}
 use Rattle.trees.specs.Trees.TreeLists.{treeGates, lines-use, tree-net, tree-net-value}
 
 -- the lines of a wiring after `before` others, with the class rule's digits

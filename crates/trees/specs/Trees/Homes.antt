@@ -2,16 +2,16 @@
 -- of two unused references share no input, and a gate that joins them has each of its inputs once.
 -- Assumes nothing.
 use Rattle.laws.specs.Prelude.{ℕ, _<_, _≤_, _^_, _≡_, _∙_, sym, refl, true, false, Bool, _||_, List, [], _∷_, _++_, append-assoc, append-nil, decLt, arith}
-use Rattle.laws.specs.Prelude.{eqb, length, List·getD-append, getD-append-seam, eq-eqb, eqb-true, ne-eqb, eqb-false}
-use Rattle.rules.specs.Lists.{any, withEach}
-use Rattle.rules.specs.Sheets.Sheets.{Gate, usedBy}
+use Rattle.laws.specs.Prelude.{eqb, length, List·getD-append, getD-append-seam, eq-eqb, eqb-true, ne-eqb, eqb-false, test-cases}
 use Rattle.rules.specs.Groups.Groups.{member}
+use Rattle.rules.specs.Lists.{any, withEach}
+use Rattle.rules.specs.Nets.Trees.{Tree, leaf, wiringIn, Apart, EachOnce, Filled}
 use Rattle.rules.specs.Nets.Wirings.{groupOf}
 use Rattle.rules.specs.Sheets.SheetRules.{GateTable, RefersBack, Distinct, Tables}
+use Rattle.rules.specs.Sheets.Sheets.{Gate, usedBy}
 use Rattle.laws.specs.Lists.Tests.{or-false-iff, not-both, none-append}
 use Rattle.laws.specs.Lists.Places.{length-snoc, each-snoc}
 use Rattle.laws.specs.Lists.Distinct.{NotIn, not-in-two, not-in-cons, distinct-before}
-use Rattle.rules.specs.Nets.Trees.{Tree, leaf, wiringIn, Apart, EachOnce, Filled}
 use Rattle.trees.specs.Groups.Members.{member-single, member-join}
 use Rattle.trees.specs.Trees.Wirings.{group-below}
 use Rattle.trees.specs.Trees.Forest.{treeAt, joinedTree, withTrees, inputTrees, inputs-length, input-at}
@@ -41,20 +41,19 @@ pub record Grown (m n : ℕ) (used : List ℕ) (forest : List Tree) : Type 0 whe
 -- each input is its own home
 pub grown-inputs : (m n : ℕ) → Grown m n [] (inputTrees n)
 unfolding any groupOf
-grown-inputs m n =
-    record {
-      enough = omega (arith, inputs-length n);
-      inputs = input-at n;
-      filled = λ r h. rw (leaf-at r h) tt;
-      once = λ r h. rw (leaf-at r h) (omega (arith, inputs-length n));
-      fresh = λ r h. refl;
-      home = λ i h. record {
-        at = i;
-        below = omega (arith, inputs-length n);
-        unused = refl;
-        sole = λ r k free. rw (leaf-at r k) (member-single i r);
-      };
-    }
+grown-inputs m n = record {
+  enough = omega (arith, inputs-length n);
+  inputs = input-at n;
+  filled = λ r h. rw (leaf-at r h) tt;
+  once = λ r h. rw (leaf-at r h) (omega (arith, inputs-length n));
+  fresh = λ r h. refl;
+  home = λ i h. record {
+    at = i;
+    below = omega (arith, inputs-length n);
+    unused = refl;
+    sole = λ r k free. rw (leaf-at r k) (member-single i r);
+  };
+}
   where
     leaf-at : (r : ℕ) → r < length (inputTrees n) → treeAt (inputTrees n) r ≡ leaf r
     leaf-at r h = input-at n r (omega (arith, inputs-length n))
@@ -63,11 +62,9 @@ grown-inputs m n =
 
 -- a number that is one of two is no other
 neither : (c a b s : ℕ) → (eqb c a || eqb c b) ≡ true → (s ≡ a → ⊥) → (s ≡ b → ⊥) → eqb c s ≡ false
-neither c a b s e no-a no-b = ne-eqb c s (λ q. go (eqb c a) refl q e)
-  where
-    go : (t : Bool) → eqb c a ≡ t → c ≡ s → (t || eqb c b) ≡ true → ⊥
-    go true here q k = no-a (sym q ∙ eqb-true c a here)
-    go false here q k = no-b (sym q ∙ eqb-true c b k)
+neither c a b s e no-a no-b = ne-eqb c s (λ q. test-cases (eqb c a)
+    (λ here. no-a (sym q ∙ eqb-true c a here))
+    (λ here. no-b (sym q ∙ eqb-true c b (rw here at e))))
 
 -- The gate g joins two references that are not used.
 module _ (m n : ℕ) (used : List ℕ) (forest : List Tree) (grown : Grown m n used forest) (g : Gate)
@@ -126,25 +123,23 @@ module _ (m n : ℕ) (used : List ℕ) (forest : List Tree) (grown : Grown m n u
 
     -- the gate is the new home if it takes the old one
     home-snoc : Home used⁺ forest⁺ i
-    home-snoc = go taken refl
-      where
-        go : (t : Bool) → taken ≡ t → Home used⁺ forest⁺ i
-        go true e = record {
+    home-snoc = test-cases taken
+        (λ e. record {
           at = length forest;
           below = omega (arith, length-snoc forest (joinedTree forest g));
           unused = fresh-snoc (length forest) (omega arith);
           sole = sole-snoc (length forest)
               (λ s h no-l no-r. neither (home .at) (g .left) (g .right) s e no-l no-r ∙ sym (ne-eqb (length forest) s (λ q. omega arith)))
               (e ∙ sym (eq-eqb (length forest) (length forest) refl));
-        }
-        go false e = let other = or-false-iff (eqb (home .at) (g .left)) (eqb (home .at) (g .right)) .0 e in record {
+        })
+        (λ e. let other = or-false-iff (eqb (home .at) (g .left)) (eqb (home .at) (g .right)) .0 e in record {
           at = home .at;
           below = omega (arith, length-snoc forest (joinedTree forest g), home .below);
           unused = not-in-two (home .at) used (g .left) (g .right) .1
               (home .unused, eqb-false (home .at) (g .left) (other .0), eqb-false (home .at) (g .right) (other .1));
           sole = sole-snoc (home .at) (λ s h no-l no-r. refl)
               (e ∙ sym (ne-eqb (home .at) (length forest) (λ q. omega (arith, home .below))));
-        }
+        })
 
   -- the gate preserves `Grown`
   pub grown-snoc : GateTable m (g .digits) → Grown m n used⁺ forest⁺

@@ -1,8 +1,8 @@
 -- Gate lists joined end to end: their references, their tables and their values.
 -- Assumes nothing.
 use Rattle.laws.specs.Prelude.{ℕ, _+_, suc, _≡_, refl, List, [], _∷_, _++_, add-zero, arith, length}
-use Rattle.rules.specs.Sheets.Sheets.{Gate, usedBy}
 use Rattle.rules.specs.Sheets.SheetRules.{RefersBack, Tables}
+use Rattle.rules.specs.Sheets.Sheets.{Gate, usedBy}
 
 -- the references that the two use
 pub used-append : (xs ys : List Gate) → usedBy (xs ++ ys) ≡ usedBy xs ++ usedBy ys

@@ -2,11 +2,11 @@
 -- Assumes nothing.
 use Rattle.laws.specs.Prelude.{ℕ, _<_, _+_, _-_, _≡_, _∙_, true, List, _++_, arith, length, length-append}
 use Rattle.rules.specs.Lists.{withEach}
-use Rattle.rules.specs.Sheets.Sheets.{Gate}
-use Rattle.rules.specs.Nets.Wirings.{Wiring, gatesIn, referenceTo, linksOf}
 use Rattle.rules.specs.Nets.Filling.{filled}
-use Rattle.trees.specs.Trees.Trees.{fill}
 use Rattle.rules.specs.Nets.Trees.{Tree, leaf, node, wiringIn, EachOnce}
+use Rattle.rules.specs.Nets.Wirings.{Wiring, gatesIn, referenceTo, linksOf}
+use Rattle.rules.specs.Sheets.Sheets.{Gate}
+use Rattle.trees.specs.Trees.Trees.{fill}
 use Rattle.laws.specs.Lists.WithEach.{with-each-append, with-each-length, with-each-earlier, with-each-last}
 use Rattle.trees.specs.Trees.Forest.{treeAt, joinedTree, withTrees, inputTrees, inputs-length, input-at}
 use Rattle.trees.specs.Trees.GateLists.{reference-below, list-lines}

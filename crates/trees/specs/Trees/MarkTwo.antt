@@ -1,23 +1,23 @@
 -- A group has mark 2 exactly if it has a wiring all of whose gates' groups have at most m classes. Any choice of parts that both have
 -- mark 2 gives such a wiring; document 01's choice of A is one.
 -- Assumes nothing.
-use Rattle.laws.specs.Prelude.{ℕ, _<_, _≤_, _+_, _-_, _^_, suc, zero, _≡_, _∙_, sym, ap, refl, _≢_, ⊎-elim, _⊎_, true, false, Bool, _&&_}
-use Rattle.laws.specs.Prelude.{and-eq-true-iff, List, arith, eqb, eqb-true, eqb-false}
-use Rattle.rules.specs.Lists.{range, any}
+use Rattle.laws.specs.Prelude.{ℕ, _<_, _≤_, _+_, _-_, _^_, suc, zero, _≡_, _∙_, sym, ap, refl, _≢_, ⊎-elim, _⊎_, true, false, Bool, _&&_, and-eq-true-iff}
+use Rattle.laws.specs.Prelude.{List, arith, eqb, eqb-true, eqb-false}
 use Rattle.rules.specs.Groups.Groups.{member, size}
 use Rattle.rules.specs.Groups.Marks.{inside, markIn, partsAt, marksOf}
-use Rattle.rules.specs.Nets.Wirings.{Wiring, input, gate, groupOf, firstInput, wiringBy}
+use Rattle.rules.specs.Lists.{range, any}
 use Rattle.rules.specs.Nets.Settled.{splitOf, settledWiring}
+use Rattle.rules.specs.Nets.Trees.{EachOnce}
+use Rattle.rules.specs.Nets.Wirings.{Wiring, input, gate, groupOf, firstInput, wiringBy}
 use Rattle.laws.specs.Lists.Tests.{mem-any}
 use Rattle.laws.specs.Lists.Ranges.{mem-range}
 use Rattle.laws.specs.Lists.FirstPlaces.{first-passes}
 use Rattle.trees.specs.Trees.Trees.{WiringOf, EachGate}
-use Rattle.rules.specs.Nets.Trees.{EachOnce}
 use Rattle.trees.specs.Groups.Classes.{Few}
 use Rattle.trees.specs.Trees.Wirings.{group-below}
 use Rattle.trees.specs.Groups.Members.{member-join, member-rest, inside-member, member-inside, first-member, size-zero, size-single, size-one}
 use Rattle.trees.specs.Groups.Members.{size-join, size-pos, size-le, rest-apart}
-use Rattle.trees.specs.Groups.MarkRule.{PartsIntoTwos, parts-at-holds, parts-found, parts-swap, Way, to-none, to-two, to-one, marked, way, three-way}
+use Rattle.trees.specs.Groups.MarkRule.{PartsIntoTwos, parts-at-holds, parts-found, parts-swap, to-none, to-two, to-one, marked, way, three-way}
 
 -- the test for document 01's A: a part of mark 2 that holds the first-listed input, with a rest of mark 2
 abbrev pub isA : ℕ → List ℕ → ℕ → ℕ → Bool
@@ -160,27 +160,25 @@ module _ (m n : ℕ) (pos : 0 < m) (f : ℕ → ℕ) where
     pub why : (size n g ≡ 1) ⊎ PartsIntoTwos n (marked m n pos f) g
 
   pub two-says : (g : ℕ) → g < 2 ^ n → marked m n pos f g ≡ 2 → Two g
-  two-says g g< two = go (way m n pos f g g<)
-    where
-      go : Way m n f (marked m n pos f) g → Two g
-      go (to-none _ e) = absurd (omega arith)
-      go (to-two some few why e) = record { some = some; few = few; why = why }
-      go (to-one _ _ _ _ e) = absurd (omega arith)
+  two-says g g< two = elim (way m n pos f g g<) [
+    | to-none _ e ↦ absurd (omega arith)
+    | to-two some few why e ↦ record { some = some; few = few; why = why }
+    | to-one _ _ _ _ e ↦ absurd (omega arith)
+  ]
 
   -- a gate that joins two wirings of mark 2 splits its group into twos
   unfoldable pub gate-twos : (a b : Wiring) → EachOnce n (gate a b) → marked m n pos f (groupOf a) ≡ 2 → marked m n pos f (groupOf b) ≡ 2
       → PartsIntoTwos n (marked m n pos f) (groupOf a + groupOf b)
-  gate-twos a b once two-a two-b =
-      record {
-        a = groupOf a;
-        b = groupOf b;
-        joined = refl;
-        apart = once .0;
-        some-a = two-says _ (group-below n a (once .1)) two-a .some;
-        some-b = two-says _ (group-below n b (once .2)) two-b .some;
-        two-a = two-a;
-        two-b = two-b;
-      }
+  gate-twos a b once two-a two-b = record {
+    a = groupOf a;
+    b = groupOf b;
+    joined = refl;
+    apart = once .0;
+    some-a = two-says _ (group-below n a (once .1)) two-a .some;
+    some-b = two-says _ (group-below n b (once .2)) two-b .some;
+    two-a = two-a;
+    two-b = two-b;
+  }
 
   -- a wiring with few classes at each gate gives mark 2
   pub wiring-mark : (w : Wiring) → EachOnce n w → EachGate (Few m n f) w → marked m n pos f (groupOf w) ≡ 2

@@ -1,12 +1,12 @@
 -- A net's table follows a table sheet's rules and has a tree; its settled net follows a net sheet's rules and has that table.
 -- Assumes nothing.
 use Rattle.laws.specs.Prelude.{ℕ, _<_, _≡_, subst, true, arith}
-use Rattle.rules.specs.Limits.{levelsFit, inputsFit}
-use Rattle.laws.specs.Numbers.Sizes.{levels-fit, inputs-fit}
-use Rattle.rules.specs.Sheets.Sheets.{Net}
-use Rattle.rules.specs.Sheets.SheetRules.{NetRules, TableRules, FullTable}
 use Rattle.rules.specs.Calls.Settling.{settledNet}
+use Rattle.rules.specs.Limits.{levelsFit, inputsFit}
 use Rattle.rules.specs.Sheets.Reading.{tableOfNet}
+use Rattle.rules.specs.Sheets.SheetRules.{NetRules, TableRules, FullTable}
+use Rattle.rules.specs.Sheets.Sheets.{Net}
+use Rattle.laws.specs.Numbers.Sizes.{levels-fit, inputs-fit}
 use Rattle.laws.specs.Calls.Settling.{WholeTwo}
 use Rattle.trees.specs.Trees.Uniqueness.{settledOf, net-table-length, net-inks, net-two, settled-is-net, settled-table}
 
@@ -30,12 +30,11 @@ module _ (net : Net) (kept : NetRules net) where
   -- .. it follows a table's rules, and its whole group has mark 2
   pub kept-table : TableRules (tableOfNet net)
   unfolding tableOfNet
-  kept-table =
-      record {
-        header = kept .header;
-        count = net-table-length (net .header .levels) (net .header .inputs) (net .gates);
-        within = λ k h. omega (arith, net-full k h);
-      }
+  kept-table = record {
+    header = kept .header;
+    count = net-table-length (net .header .levels) (net .header .inputs) (net .gates);
+    within = λ k h. omega (arith, net-full k h);
+  }
 
   pub net-whole-two : WholeTwo (tableOfNet net)
   unfolding tableOfNet

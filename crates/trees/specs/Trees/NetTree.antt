@@ -1,17 +1,17 @@
 -- A net is a tree: a gate list in which each reference is an input or an earlier gate, none is used twice and every gate but
 -- the last is used. Its leaves are the inputs that the gates use.
 -- Assumes nothing.
-use Rattle.laws.specs.Prelude.{ℕ, _<_, _≤_, _+_, _-_, _^_, suc, _≡_, _∙_, sym, refl, false≢true, List, [], _∷_, decLt, arith, eqb, length, eq-eqb}
-use Rattle.laws.specs.Prelude.{eqb-true, ne-eqb}
-use Rattle.rules.specs.Lists.{any}
-use Rattle.rules.specs.Sheets.Sheets.{Gate, usedBy}
-use Rattle.rules.specs.Nets.Value.{value}
+use Rattle.laws.specs.Prelude.{ℕ, _<_, _≤_, _+_, _-_, _^_, suc, _≡_, _∙_, sym, refl, false≢true, List, [], _∷_, decLt, arith, eqb, length, eq-eqb, eqb-true}
+use Rattle.laws.specs.Prelude.{ne-eqb}
 use Rattle.rules.specs.Groups.Groups.{member}
+use Rattle.rules.specs.Lists.{any}
+use Rattle.rules.specs.Nets.Trees.{Tree, wiringIn, treeValue, EachOnce, Filled, UsesJust}
+use Rattle.rules.specs.Nets.Value.{value}
 use Rattle.rules.specs.Nets.Wirings.{Wiring, groupOf}
 use Rattle.rules.specs.Sheets.SheetRules.{RefersBack, GateRules, EarlierUsed, IsNet}
+use Rattle.rules.specs.Sheets.Sheets.{Gate, usedBy}
 use Rattle.laws.specs.Lists.Tests.{not-false-true}
 use Rattle.laws.specs.Lists.Distinct.{NotIn, not-in-cons}
-use Rattle.rules.specs.Nets.Trees.{Tree, wiringIn, treeValue, EachOnce, Filled, UsesJust}
 use Rattle.laws.specs.Lists.WithEach.{with-each-length}
 use Rattle.trees.specs.Groups.Members.{member-ext, member-single}
 use Rattle.trees.specs.Trees.Wirings.{group-below}

@@ -2,15 +2,15 @@
 -- Assumes nothing.
 use Rattle.laws.specs.Prelude.{ℕ, _<_, _≤_, _+_, _^_, suc, zero, _≡_, _∙_, sym, _↔_, _≢_, ⊎-elim, _⊎_, inl, inr, true, Bool, _&&_, and-eq-true-iff, List}
 use Rattle.laws.specs.Prelude.{ℕ-discrete, arith, eqb, eq-eqb, eqb-true, pow-lt}
-use Rattle.rules.specs.Lists.{range, those, concatMap, find}
 use Rattle.rules.specs.Groups.Groups.{part, size, multiplicity, wholeGroup}
 use Rattle.rules.specs.Groups.Marks.{markIn, marksOf, bySize, noTreePlace}
+use Rattle.rules.specs.Lists.{range, those, concatMap, find}
 use Rattle.trees.specs.Trees.Trees.{mix, Tells}
 use Rattle.trees.specs.Groups.Members.{whole-below, size-le}
 use Rattle.trees.specs.Groups.Levels.{part-below, part-whole, part-mix, mix-below}
 use Rattle.trees.specs.Groups.Classes.{few-classes}
 use Rattle.laws.specs.Lists.Finds.{First, missing, the-first, first-same, first-or, find-append, find-those, InRange, first-in-range}
-use Rattle.trees.specs.Groups.MarkRule.{Way, to-none, to-two, to-one, marked, way}
+use Rattle.trees.specs.Groups.MarkRule.{to-none, to-two, to-one, marked, way}
 
 -- ---- the groups in the order of their sizes
 
@@ -78,12 +78,11 @@ module _ (m n : ℕ) (pos : 0 < m) (f : ℕ → ℕ) where
   -- if every ink is below m, the whole group's mark is 1 or 2
   pub whole-mark : 0 < n → ((p : ℕ) → p < m ^ n → f p < m) → marked m n pos f (wholeGroup n) ≢ 2 → marked m n pos f (wholeGroup n) ≡ 1
   unfolding wholeGroup
-  whole-mark some inks not-two = go (way m n pos f (wholeGroup n) (whole-below n))
-    where
-      go : Way m n f (marked m n pos f) (wholeGroup n) → marked m n pos f (wholeGroup n) ≡ 1
-      go (to-none not-some e) = absurd (not-some (omega (arith, pow-lt {i = 0} some)) (whole-few inks))
-      go (to-two _ _ _ e) = absurd (not-two e)
-      go (to-one _ _ _ _ e) = e
+  whole-mark some inks not-two = elim (way m n pos f (wholeGroup n) (whole-below n)) [
+    | to-none not-some e ↦ absurd (not-some (omega (arith, pow-lt {i = 0} some)) (whole-few inks))
+    | to-two _ _ _ e ↦ absurd (not-two e)
+    | to-one _ _ _ _ e ↦ e
+  ]
 
   -- and then refusal 16 has a place: the group of mark 1 with fewest members, then of lowest number
   pub no-tree-place : 0 < n → ((p : ℕ) → p < m ^ n → f p < m) → marked m n pos f (wholeGroup n) ≢ 2 →

@@ -2,11 +2,11 @@
 -- if a net does.
 -- Assumes nothing.
 use Rattle.laws.specs.Prelude.{ℕ, _+_, _*_, _≡_, _∙_, sym, _↔_, List, arith, getD}
-use Rattle.rules.specs.Sheets.Sheets.{Gate, levelsAt}
+use Rattle.rules.specs.Nets.Trees.{Tree, leaf, node, wiringIn, EachOnce, treeValue, TreeExists, UsesJust, GateTree, SomeTree}
 use Rattle.rules.specs.Nets.Value.{value}
 use Rattle.rules.specs.Nets.Wirings.{groupOf, gatesIn}
 use Rattle.rules.specs.Sheets.SheetRules.{IsNet}
-use Rattle.rules.specs.Nets.Trees.{Tree, leaf, node, wiringIn, EachOnce, treeValue, TreeExists, UsesJust, GateTree, SomeTree}
+use Rattle.rules.specs.Sheets.Sheets.{Gate, levelsAt}
 use Rattle.trees.specs.Trees.NetTree.{TreeOf, net-tree, net-uses}
 use Rattle.trees.specs.Trees.UsedOnce.{net-gates}
 use Rattle.trees.specs.Trees.TreeLists.{treeGates, lines-use, tree-net, tree-net-value, levels-valued}

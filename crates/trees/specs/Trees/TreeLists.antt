@@ -3,12 +3,13 @@
 -- Assumes nothing.
 use Rattle.laws.specs.Prelude.{ℕ, _<_, _≤_, _+_, _-_, suc, _*_, _≡_, _∙_, sym, ap, refl, by-cases, true, false, Bool, List, [], _∷_, _++_, List·Memᴰ}
 use Rattle.laws.specs.Prelude.{zero-add, add-zero, add-assoc, decLt, arith, eqb, length, getD, length-append, eq-eqb}
-use Rattle.rules.specs.Lists.{range, any, those, withEach}
-use Rattle.rules.specs.Sheets.Sheets.{Gate, usedBy, level, levelsAt}
-use Rattle.rules.specs.Nets.Value.{value, gateValue, withGates, valueWith}
 use Rattle.rules.specs.Groups.Groups.{member}
+use Rattle.rules.specs.Lists.{range, any, those, withEach}
+use Rattle.rules.specs.Nets.Trees.{Tree, leaf, node, wiringIn, EachOnce, Filled, treeValue, UsesJust}
+use Rattle.rules.specs.Nets.Value.{value, gateValue, withGates, valueWith}
 use Rattle.rules.specs.Nets.Wirings.{groupOf, gatesIn, referenceTo}
 use Rattle.rules.specs.Sheets.SheetRules.{RefersBack, Tables, EarlierUsed, IsNet}
+use Rattle.rules.specs.Sheets.Sheets.{Gate, usedBy, level, levelsAt}
 use Rattle.laws.specs.Numbers.Levels.{levels-length}
 use Rattle.laws.specs.Lists.Tests.{oneWhere, one-if-le, one-if-or, mem-any}
 use Rattle.laws.specs.Lists.Ranges.{range-append, mem-range, map-range-at}
@@ -17,7 +18,6 @@ use Rattle.laws.specs.Lists.Finds.{those-mem}
 use Rattle.laws.specs.Lists.Listed.{mem-those, those-pass}
 use Rattle.laws.specs.Lists.Counts.{count-cons, count-append, count-none, times, not-one, times-range}
 use Rattle.laws.specs.Lists.Distinct.{times-distinct}
-use Rattle.rules.specs.Nets.Trees.{Tree, leaf, node, wiringIn, EachOnce, Filled, treeValue, UsesJust}
 use Rattle.laws.specs.Lists.WithEach.{with-each-append, with-each-length, with-each-earlier, with-each-last}
 use Rattle.trees.specs.Groups.Members.{member-single, member-join, size-le}
 use Rattle.trees.specs.Trees.Wirings.{group-below, gates-in-size}

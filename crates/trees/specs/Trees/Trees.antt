@@ -3,9 +3,9 @@
 -- Assumes nothing.
 use Rattle.laws.specs.Prelude.{ℕ, _+_, _≡_, false, Bool}
 use Rattle.rules.specs.Groups.Groups.{part, others}
-use Rattle.rules.specs.Nets.Wirings.{Wiring, input, gate, groupOf}
 use Rattle.rules.specs.Nets.Filling.{gateDigits}
 use Rattle.rules.specs.Nets.Trees.{Tree, leaf, node, EachOnce}
+use Rattle.rules.specs.Nets.Wirings.{Wiring, input, gate, groupOf}
 
 -- ---- wirings
 

@@ -2,15 +2,15 @@
 -- (document 02, K12): a net's table is over all inputs, whichever it uses.
 -- Assumes nothing.
 use Rattle.laws.specs.Prelude.{ℕ, _<_, _^_, _≡_, _∙_, sym, ap, subst, subst⁻¹, _↔_, List, zero-add, length, ext-getD}
-use Rattle.rules.specs.Sheets.Sheets.{Gate}
-use Rattle.rules.specs.Nets.Value.{value, tableOf}
+use Rattle.rules.specs.Calls.Answers.{inkIn}
 use Rattle.rules.specs.Groups.Groups.{wholeGroup}
 use Rattle.rules.specs.Groups.Marks.{marksOf}
 use Rattle.rules.specs.Nets.Settled.{settledGates}
-use Rattle.rules.specs.Calls.Answers.{inkIn}
-use Rattle.rules.specs.Sheets.SheetRules.{IsNet}
-use Rattle.laws.specs.Lists.Ranges.{map-range-length, map-range-at}
 use Rattle.rules.specs.Nets.Trees.{Computes}
+use Rattle.rules.specs.Nets.Value.{value, tableOf}
+use Rattle.rules.specs.Sheets.SheetRules.{IsNet}
+use Rattle.rules.specs.Sheets.Sheets.{Gate}
+use Rattle.laws.specs.Lists.Ranges.{map-range-length, map-range-at}
 use Rattle.trees.specs.Trees.NetTree.{TreeOf, net-several, net-tree}
 use Rattle.trees.specs.Trees.Wirings.{tree-below}
 use Rattle.trees.specs.Groups.MarkRule.{marked}

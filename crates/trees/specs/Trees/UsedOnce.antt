@@ -1,15 +1,16 @@
 -- "No input or gate is referred to twice.": a sum over the references that a net uses is the sum over its used inputs and over every gate but the
 -- last. So a net has one gate fewer than it uses inputs.
 -- Assumes nothing.
-use Rattle.laws.specs.Prelude.{ℕ, _<_, _≤_, _+_, _-_, suc, zero, _≡_, _∙_, sym, ap, refl, by-cases, true, false, Bool, true≢false, cond, _||_, List, []}
-use Rattle.laws.specs.Prelude.{_∷_, map, List·Memᴰ, List·Memᴰ·head, List·Memᴰ·tail, zero-add, add-zero, ℕ-discrete, arith, eqb, length, eqb-true, ne-eqb}
+use Rattle.laws.specs.Prelude.{ℕ, _<_, _≤_, _+_, _-_, suc, zero, _≡_, _∙_, sym, ap, refl, by-cases, true, false, Bool, true≢false, cond, _||_, List, [], _∷_}
+use Rattle.laws.specs.Prelude.{map, List·Memᴰ, List·Memᴰ·head, List·Memᴰ·tail, zero-add, add-zero, ℕ-discrete, arith, eqb, length, eqb-true, ne-eqb}
 use Rattle.laws.specs.Prelude.{eqb-false}
-use Rattle.rules.specs.Lists.{range, any, those, total}
-use Rattle.rules.specs.Sheets.Sheets.{Gate, usedBy}
 use Rattle.rules.specs.Groups.Groups.{member, size}
+use Rattle.rules.specs.Lists.{range, any, those, total}
+use Rattle.rules.specs.Nets.Arrivals.{usedInputs}
+use Rattle.rules.specs.Nets.Trees.{UsesJust}
 use Rattle.rules.specs.Nets.Wirings.{gatesIn}
 use Rattle.rules.specs.Sheets.SheetRules.{Distinct, IsNet}
-use Rattle.rules.specs.Nets.Arrivals.{usedInputs}
+use Rattle.rules.specs.Sheets.Sheets.{Gate, usedBy}
 use Rattle.laws.specs.Lists.Tests.{any-cons, by-test}
 use Rattle.laws.specs.Lists.Ranges.{range-length, range-append, range-suc, mem-range, range-mem}
 use Rattle.laws.specs.Lists.Finds.{those-mem}
@@ -18,7 +19,6 @@ use Rattle.laws.specs.Lists.Listed.{mem-those, those-pass, those-listed}
 use Rattle.laws.specs.Lists.Distinct.{In, NotIn, not-in-cons}
 use Rattle.trees.specs.Trees.Wirings.{gates-in-size}
 use Rattle.trees.specs.Trees.NetTree.{net-tree, netWiring, netGroup, net-uses, past-unused, used-length}
-use Rattle.rules.specs.Nets.Trees.{UsesJust}
 
 -- ---- a list without one number
 

@@ -3,10 +3,10 @@
 -- Assumes nothing.
 use Rattle.laws.specs.Prelude.{ℕ, _<_, _+_, _^_, suc, _*_, _≡_, _∙_, sym, ap₂, true, false, Bool, List, arith, getD, digits-lt, pow-pos}
 use Rattle.rules.specs.Groups.Groups.{size, part}
-use Rattle.rules.specs.Nets.Wirings.{Wiring, input, gate, groupOf, gatesIn}
 use Rattle.rules.specs.Nets.Filling.{carried, given}
-use Rattle.trees.specs.Trees.Trees.{EachGate, Tells, fill}
 use Rattle.rules.specs.Nets.Trees.{Tree, leaf, node, wiringIn, treeValue, EachOnce, Filled}
+use Rattle.rules.specs.Nets.Wirings.{Wiring, input, gate, groupOf, gatesIn}
+use Rattle.trees.specs.Trees.Trees.{EachGate, Tells, fill}
 use Rattle.trees.specs.Groups.Members.{single-below, join-below, size-single, size-join}
 use Rattle.trees.specs.Groups.Levels.{level-below}
 use Rattle.trees.specs.Groups.Classes.{Few, few-classes}
@@ -74,17 +74,13 @@ module _ (m n : ℕ) (pos : 0 < m) (f : ℕ → ℕ) where
       → Tells m n f (groupOf (wiringIn (node digits a b))) (treeValue m n (node digits a b))
       → Tells m n f (groupOf (wiringIn a)) (treeValue m n a) × Tells m n f (groupOf (wiringIn b)) (treeValue m n b)
   unfolding treeValue groupOf
-  sides-tell digits a b (apart, a-once, b-once) tells = (
-    tells-left m n pos _ _ a< b< apart f _ _ _ (tree-part a a-once) (tree-part b b-once) settled tells,
-    tells-right m n pos _ _ a< b< apart f _ _ _ (tree-part a a-once) (tree-part b b-once) settled tells,
-  )
+  sides-tell digits a b (apart, a-once, b-once) tells =
+      let b< = group-below n (wiringIn b) b-once in
+      let a< = group-below n (wiringIn a) a-once in (
+        tells-left m n pos _ _ a< b< apart f _ _ _ (tree-part a a-once) (tree-part b b-once) settled tells,
+        tells-right m n pos _ _ a< b< apart f _ _ _ (tree-part a a-once) (tree-part b b-once) settled tells,
+      )
     where
-      a< : groupOf (wiringIn a) < 2 ^ n
-      a< = group-below n (wiringIn a) a-once
-
-      b< : groupOf (wiringIn b) < 2 ^ n
-      b< = group-below n (wiringIn b) b-once
-
       settled : (p q : ℕ) → treeValue m n a p ≡ treeValue m n a q → treeValue m n b p ≡ treeValue m n b q
           → treeValue m n (node digits a b) p ≡ treeValue m n (node digits a b) q
       settled p q = ap₂ (λ u v. getD digits (u * m + v) 0)
@@ -113,17 +109,16 @@ module _ (m n : ℕ) (pos : 0 < m) (f : ℕ → ℕ) where
     -- a gate joins two groups that it may join
     pub gate-parts : Parts m n f (groupOf a) (groupOf b)
     unfolding groupOf
-    gate-parts =
-        record {
-          some-a = group-some a;
-          some-b = group-some b;
-          a-below = group-below n a (once .1);
-          b-below = group-below n b (once .2);
-          apart = once .0;
-          few-a = wiring-few a (once .1) (few .1);
-          few-b = wiring-few b (once .2) (few .2);
-          few = few .0;
-        }
+    gate-parts = record {
+      some-a = group-some a;
+      some-b = group-some b;
+      a-below = group-below n a (once .1);
+      b-below = group-below n b (once .2);
+      apart = once .0;
+      few-a = wiring-few a (once .1) (few .1);
+      few-b = wiring-few b (once .2) (few .2);
+      few = few .0;
+    }
 
     -- if both sides have the values that their wires carry, the gate gives what it must
     gate-gives : (p : ℕ) → treeValue m n (fill m n f false a) p ≡ carried m n f (groupOf a) p

@@ -39,9 +39,6 @@ turn-of c = c .before .before .before
 abbrev at-key : tie.After-in-chain Inv-loop μ-loop → tie.After-key Inv-loop μ-loop
 at-key c = c .before .before .before .before
 
-cast-key : tie.Need-cast-key Inv-loop μ-loop
-cast-key c = omega (arith, c .shared-slice-known4 .given (c .before .before .before .loop .i))
-
 key-requires : tie.Need-key-requires Inv-loop μ-loop
 key-requires c κs =
     let turn = c .before .before in
@@ -77,9 +74,6 @@ in-chain-requires c κs =
       λ j h. l .inv .3 .inside j (omega (arith, low)),
       λ j h. l .inv .4 .backward j (omega (arith, low)),
     )
-
-returns : tie.Need-returns Inv-loop μ-loop
-returns c = kept-enough (c .before .before .loop .inv .3) (c .if1 .taken)
 
 -- a search, and what it says about the assignment's class
 module _ (c : tie.After-in-chain Inv-loop μ-loop) where
@@ -121,15 +115,13 @@ loop-again-2 c =
       chained-new _ _ _ _ (loop .inv .4) (p at) _ (at-key at .key .ensures) (room at .0) (room at .1) (has-head (at-key at)),
     )
 
-returns-2 : tie.Need-returns-2 Inv-loop μ-loop
-returns-2 c = kept-all (c .before .loop .inv .3) (c .loop-test .left)
-
 pub class-firsts-spec : {M : Type 1} → statement M
 class-firsts-spec =
     tie.close (tie.spec Inv-loop μ-loop loop-holds (λ c. c .before .before .loop .inv .0) (λ c. c .before .before .loop .inv .1)
-    (λ c. c .before .before .loop .inv .2) returns (λ c. omega arith) (λ c. omega arith) cast-key key-requires (λ c. omega (arith, has-head c))
+    (λ c. c .before .before .loop .inv .2) (λ c. kept-enough (c .before .before .loop .inv .3) (c .if1 .taken)) (λ c. omega arith) (λ c. omega arith)
+    (λ c. omega (arith, c .shared-slice-known4 .given (c .before .before .before .loop .i))) key-requires (λ c. omega (arith, has-head c))
     (λ c. has-head (c .before)) cast-in-chain cast-in-chain-2 in-chain-requires (λ c. omega arith) (λ c. omega arith) loop-again
     (λ c. omega (arith, room (c .before) .2)) (λ c. room (c .before) .0) (λ c. omega (arith, room (c .before) .2)) (λ c. room (c .before) .1)
     (λ c. omega (arith, room (c .before) .2)) (λ c. omega (arith, room (c .before) .2)) (λ c. omega (arith, has-head (at-key (c .before))))
     (λ c. has-head (at-key (c .before))) (λ c. omega arith) (λ c. omega arith) loop-again-2 (λ c. c .before .loop .inv .0) (λ c. c .before .loop .inv .1)
-    (λ c. c .before .loop .inv .2) returns-2)
+    (λ c. c .before .loop .inv .2) (λ c. kept-all (c .before .loop .inv .3) (c .loop-test .left)))

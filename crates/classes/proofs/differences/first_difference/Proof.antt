@@ -34,9 +34,6 @@ loop-holds c =
     let front = c .same-front .ensures in
     (front .0, find-behind _ (length (a .ys .now)) (c .same-front .result) (front .0) (front .1) ∙ ap search (sub-zero (length (a .ys .now))))
 
-cast-y : tie.Need-cast-y Inv-loop μ-loop
-cast-y c = omega (arith, c .shared-slice-known3 .given (at-turn c .before .loop .k))
-
 -- the two cells that a turn reads exist
 in-cells : (c : tie.In-loop Inv-loop μ-loop) →
     let a = at-start (c .before) .args in
@@ -60,11 +57,10 @@ loop-again c =
     let ys = at-start (turn .before) .args .ys .now in
     (omega arith, find-next _ (l .k) (length ys) (turn .loop-test .taken) (ap not (eq-eqb _ _ (c .if1 .left))) ∙ l .inv .1)
 
-returns-2 : tie.Need-returns-2 Inv-loop μ-loop
-returns-2 c = sym (find-end _ (c .before .loop .k) (length (at-start (c .before) .args .ys .now)) (c .loop-test .left)) ∙ c .before .loop .inv .1
-
 pub first-difference-spec : {M : Type 1} → statement M
 first-difference-spec =
-    tie.close (tie.spec Inv-loop μ-loop (λ c κs. c .before .before .pre) loop-holds (λ c. omega arith) (λ c. omega arith) cast-y
+    tie.close (tie.spec Inv-loop μ-loop (λ c κs. c .before .before .pre) loop-holds (λ c. omega arith) (λ c. omega arith)
+    (λ c. omega (arith, c .shared-slice-known3 .given (at-turn c .before .loop .k)))
     (λ c. omega (arith, in-cells (at-turn c))) (λ c. in-cells (at-turn (c .before)) .0) (λ c. omega (arith, in-cells (at-turn (c .before))))
-    (λ c. in-cells (turn-reads c) .1) returns (λ c. omega arith) (λ c. omega arith) loop-again returns-2)
+    (λ c. in-cells (turn-reads c) .1) returns (λ c. omega arith) (λ c. omega arith) loop-again
+    (λ c. sym (find-end _ (c .before .loop .k) (length (at-start (c .before) .args .ys .now)) (c .loop-test .left)) ∙ c .before .loop .inv .1))

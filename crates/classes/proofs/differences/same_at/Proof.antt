@@ -11,12 +11,9 @@ in-cells : (c : tie.Start) →
     (a .p + y < length (a .cells .now)) × (a .q + y < length (a .cells .now))
 in-cells c = (c .pre .1 (c .args .k) (c .pre .0), c .pre .2 (c .args .k) (c .pre .0))
 
-returns : tie.Need-returns
-unfolding differAt
-returns c = refl
-
 pub same-at-spec : {M : Type 1} → statement M
+unfolding differAt
 same-at-spec =
     tie.close (tie.spec (λ c. search needs) (λ c. search needs) (λ c. omega (arith, c .shared-slice-known .given (c .before .args .k)))
     (λ c. omega (arith, in-cells (c .before))) (λ c. in-cells (c .before .before) .0) (λ c. omega (arith, in-cells (c .before .before)))
-    (λ c. in-cells (c .before .before .before) .1) returns)
+    (λ c. in-cells (c .before .before .before) .1) (λ c. refl))

@@ -20,9 +20,6 @@ at-loop c = c .before .before .before
 abbrev at-start : tie.At-loop Inv-loop μ-loop → tie.Start Inv-loop μ-loop
 at-start c = c .before .before .before .before .before
 
-cast-alike : tie.Need-cast-alike Inv-loop μ-loop
-cast-alike c = omega (arith, c .shared-slice-known5 .given (c .before .before .loop .at - 1))
-
 alike-requires : tie.Need-alike-requires Inv-loop μ-loop
 alike-requires c κs =
     let l = c .before .before in
@@ -33,9 +30,6 @@ returns : tie.Need-returns Inv-loop μ-loop
 returns c =
     let l = at-loop (c .before) .loop in
     search-found _ _ _ _ (l .at - 1) (omega (arith, l .inv .0, c .before .before .before .loop-test .taken)) (sym (c .before .alike .ensures) ∙ c .if1 .taken)
-
-cast-at : tie.Need-cast-at Inv-loop μ-loop
-cast-at c = omega (arith, c .shared-slice-known6 .given (at-loop (c .before .before) .loop .at - 1))
 
 module _ (c : tie.After-shared-slice-known6 Inv-loop μ-loop) where
   abbrev l : tie.At-loop Inv-loop μ-loop
@@ -56,11 +50,11 @@ loop-again c = let a = at-start (l c) .args in (
       (sym (c .before .before .alike .ensures) ∙ c .before .if1 .left),
 )
 
-returns-2 : tie.Need-returns-2 Inv-loop μ-loop
-returns-2 c = search-missed _ _ _ _ (c .before .loop .at) (omega (arith, c .loop-test .left)) (c .before .loop .inv .1)
-
 pub in-chain-spec : {M : Type 1} → statement M
 in-chain-spec =
     tie.close (tie.spec Inv-loop μ-loop (λ c. (omega arith, λ j h e. h)) (λ c. omega arith) (λ c. omega (arith, c .before .loop .inv .0))
-    (λ c. omega (arith, c .before .before .loop .inv .0, c .before .loop-test .taken)) cast-alike alike-requires returns
-    (λ c. omega (arith, at-loop (c .before) .loop .inv .0)) (λ c. omega (arith, inside c)) cast-at (λ c. omega (arith, back c)) loop-again returns-2)
+    (λ c. omega (arith, c .before .before .loop .inv .0, c .before .loop-test .taken))
+    (λ c. omega (arith, c .shared-slice-known5 .given (c .before .before .loop .at - 1))) alike-requires returns
+    (λ c. omega (arith, at-loop (c .before) .loop .inv .0)) (λ c. omega (arith, inside c))
+    (λ c. omega (arith, c .shared-slice-known6 .given (at-loop (c .before .before) .loop .at - 1))) (λ c. omega (arith, back c)) loop-again
+    (λ c. search-missed _ _ _ _ (c .before .loop .at) (omega (arith, c .loop-test .left)) (c .before .loop .inv .1)))

@@ -2,8 +2,7 @@
 use Rattle.laws.specs.Prelude.{ℕ, _<_, _≤_, _+_, _-_, _*_, _%_, _≡_, _∙_, sym, ap, refl, mul-le-mul, arith, length, getD, take, drop, drop-of-length-le}
 use Rattle.laws.specs.Prelude.{length-take-le, getD-take}
 use Rattle.rules.specs.Calls.Answers.{inkIn}
-use Rattle.classes.specs.Keys.{keyBound, keyFrom, keyOf}
-use Rattle.classes.proofs.KeyMaking.{key-next}
+use Rattle.classes.specs.Keys.{keyBound, keyFrom, keyOf, key-next}
 use Rattle.classes.proofs.keys.key.Statement.{statement}
 use Rattle.classes.proofs.keys.key.Tie as tie
 
@@ -22,19 +21,13 @@ loop-holds : tie.Need-loop-holds Inv-loop μ-loop
 unfolding keyOf
 loop-holds c = (omega arith, refl, omega arith)
 
-cast-y : tie.Need-cast-y Inv-loop μ-loop
-cast-y c = omega (arith, c .shared-slice-known .given (c .before .before .loop .k))
+-- the key so far is small
+small : (c : tie.At-loop Inv-loop μ-loop) → c .loop .made * c .before .args .m ≤ 255 * 9
+small c = let low : c .loop .made ≤ 255 = omega (arith, c .loop .inv .2) in mul-le-mul low (c .before .pre .0)
 
 -- the cell that a turn reads exists
 in-cells : (c : tie.In-loop Inv-loop μ-loop) → let a = c .before .before .args in a .p + getD (a .ys .now) (c .before .loop .k) 0 < length (a .cells .now)
 in-cells c = c .before .before .pre .2 (c .before .loop .k) (omega arith)
-
-mul-made : tie.Need-mul-made Inv-loop μ-loop
-mul-made c =
-    let l = c .before .before in
-    let low : l .loop .made ≤ 255 = omega (arith, l .loop .inv .2) in
-    let small : l .loop .made * l .before .args .m ≤ 255 * 9 = mul-le-mul low (l .before .pre .0) in
-    omega (arith, small)
 
 -- the ink that a turn adds is a byte, and the remaining columns still give the key
 module _ (c : tie.After-shared-slice-known2 Inv-loop μ-loop) where
@@ -46,9 +39,6 @@ module _ (c : tie.After-shared-slice-known2 Inv-loop μ-loop) where
 
   byte : ink < 256
   byte = omega (arith, c .shared-slice-known2 .given (start .args .p + getD (start .args .ys .now) (at-turn c .before .loop .k) 0))
-
-  small : at-turn c .before .loop .made * start .args .m ≤ 255 * 9
-  small = let low : at-turn c .before .loop .made ≤ 255 = omega (arith, at-turn c .before .loop .inv .2) in mul-le-mul low (start .pre .0)
 
   joins : let l = at-turn c .before .loop in let a = start .args in
       keyFrom (a .m) (inkIn (a .cells .now)) (a .p) ((l .made * a .m + ink) % 256) (drop (l .k + 1) (take (a .width) (a .ys .now)))
@@ -63,9 +53,6 @@ module _ (c : tie.After-shared-slice-known2 Inv-loop μ-loop) where
       (omega (arith, length-take-le (a .width) (a .ys .now) (start .pre .1), at-turn c .loop-test .taken))
       ∙ l .inv .1
 
-loop-again : tie.Need-loop-again Inv-loop μ-loop
-loop-again c = (omega arith, joins c, omega arith)
-
 returns : tie.Need-returns Inv-loop μ-loop
 unfolding keyFrom
 returns c =
@@ -79,5 +66,7 @@ returns c =
 
 pub key-spec : {M : Type 1} → statement M
 key-spec =
-    tie.close (tie.spec Inv-loop μ-loop loop-holds (λ c. omega arith) (λ c. omega arith) cast-y mul-made (λ c. omega (arith, in-cells (c .before)))
-    (λ c. in-cells (at-turn c)) (λ c. omega (arith, byte c)) (λ c. omega (arith, byte c, small c)) (λ c. omega arith) (λ c. omega arith) loop-again returns)
+    tie.close (tie.spec Inv-loop μ-loop loop-holds (λ c. omega arith) (λ c. omega arith)
+    (λ c. omega (arith, c .shared-slice-known .given (c .before .before .loop .k))) (λ c. omega (arith, small (c .before .before)))
+    (λ c. omega (arith, in-cells (c .before))) (λ c. in-cells (at-turn c)) (λ c. omega (arith, byte c))
+    (λ c. omega (arith, byte c, small (at-turn c .before))) (λ c. omega arith) (λ c. omega arith) (λ c. (omega arith, joins c, omega arith)) returns)

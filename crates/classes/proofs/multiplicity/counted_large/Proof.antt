@@ -10,7 +10,7 @@ use Rattle.classes.proofs.multiplicity.counted_large.Tie as tie
 -- any group has room
 room : (c : tie.Start) (g : ℕ) → c .args .m ^ size (c .args .n) g ≤ mostCells
 room c g =
-    let fit = sized (c .args .m) (c .args .n) (c .pre .0) in
+    let fit = sized (c .args .m) (c .args .n) (c .pre .0 .size) in
     le-trans (pow-le-pow-right (omega (arith, fit .levels-least)) (size-le (c .args .n) g)) (fit .cells-most)
 
 counted-requires : tie.Need-counted-requires

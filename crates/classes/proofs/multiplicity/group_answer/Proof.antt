@@ -1,10 +1,10 @@
 -- `classes::multiplicity::group_answer` meets its contract: refusal 11, or the count of the group's classes.
 -- Assumes nothing.
-use Rattle.laws.specs.Prelude.{ℕ, _<_, _≤_, _-_, _^_, _≡_, ap, true, arith, length, needs}
-use Rattle.rules.specs.Limits.{sizeFits}
+use Rattle.laws.specs.Prelude.{ℕ, _<_, _≤_, _-_, _^_, _≡_, ap, arith, length, needs}
 use Rattle.rules.specs.Groups.Groups.{size, others, multiplicity}
 use Rattle.rules.specs.Calls.Answers.{accepted, inkIn}
 use Rattle.laws.specs.Numbers.Sizes.{sized}
+use Rattle.cells.specs.Full.{FullCells}
 use Rattle.laws.specs.Calls.Multiplicity.{groupAnswer, group-empty, group-past, group-counted}
 use Rattle.trees.specs.Groups.Members.{size-le, size-others}
 use Rattle.classes.proofs.multiplicity.group_answer.Statement.{statement}
@@ -14,17 +14,11 @@ use Rattle.classes.proofs.multiplicity.group_answer.Tie as tie
 abbrev at-start : tie.After-power → tie.Start
 at-start c = c .before .before .before
 
-returns : tie.Need-returns
-returns c = group-empty _ _ _ _ (c .if1 .taken)
-
 power-requires : tie.Need-power-requires
 power-requires c κs =
     let start = c .before .before in
-    let fit = sized (start .args .m) (start .args .n) (start .pre .0) in
+    let fit = sized (start .args .m) (start .args .n) (start .pre .0 .size) in
     omega (arith, fit .inputs-most)
-
-returns-2 : tie.Need-returns-2
-returns-2 c = group-past _ _ _ _ (omega (arith, c .before .power .ensures, c .if2 .taken))
 
 -- the group is below 2 to the n
 below : (c : tie.Else2) → at-start (c .before) .args .group < 2 ^ at-start (c .before) .args .n
@@ -41,22 +35,19 @@ members-fit c =
 
 -- what each way of counting requires
 asks : (c : tie.Else2) → let a = at-start (c .before) .args in
-    (sizeFits (a .m) (a .n) ≡ true) × (length (a .cells .now) ≡ a .m ^ a .n) × (a .group < 2 ^ a .n)
+    (FullCells (a .m) (a .n) (a .cells .now)) × (length (a .cells .now) ≡ a .m ^ a .n) × (a .group < 2 ^ a .n)
 asks c = let pre = at-start (c .before) .pre in (pre .0, pre .1, below c)
 
 power-requires-2 : tie.Need-power-requires-2
 power-requires-2 c κs =
     let start = at-start (c .before .before) in
-    let fit = sized (start .args .m) (start .args .n) (start .pre .0) in
+    let fit = sized (start .args .m) (start .args .n) (start .pre .0 .size) in
     omega (arith, fit .levels-most, fit .inputs-most, members-fit c)
-
-sub-power : tie.Need-sub-power
-sub-power c = omega (arith, members-fit (c .before .before))
 
 power-requires-3 : tie.Need-power-requires-3
 power-requires-3 c κs =
     let start = at-start (c .before .before .before .before) in
-    let fit = sized (start .args .m) (start .args .n) (start .pre .0) in
+    let fit = sized (start .args .m) (start .args .n) (start .pre .0 .size) in
     omega (arith, fit .levels-most, fit .inputs-most)
 
 counted-small-requires : tie.Need-counted-small-requires
@@ -87,8 +78,11 @@ counted-is c r is = group-counted _ _ _ _ r (c .before .before .if1 .left) (belo
 
 pub group-answer-spec : {M : Type 1} → statement M
 group-answer-spec =
-    tie.close (tie.spec returns power-requires returns-2 (λ c κs. search needs) power-requires-2 (λ c κs. asks (c .before .before .before))
-    (λ c. counted-is (c .before .before .before .before) _ (c .counted-large .ensures)) sub-power power-requires-3
+    tie.close (tie.spec (λ c. group-empty _ _ _ _ (c .if1 .taken)) power-requires
+    (λ c. group-past _ _ _ _ (omega (arith, c .before .power .ensures, c .if2 .taken)))
+    (λ c κs. search needs) power-requires-2 (λ c κs. asks (c .before .before .before))
+    (λ c. counted-is (c .before .before .before .before) _ (c .counted-large .ensures)) (λ c. omega (arith, members-fit (c .before .before)))
+    power-requires-3
     (λ c κs. asks (c .before .before .before .before .before))
     (λ c. counted-is (c .before .before .before .before .before .before) _ (c .counted-large2 .ensures)) counted-small-requires
     (λ c. counted-is (c .before .before .before .before .before .before) _ (c .counted-small .ensures)))

@@ -4,6 +4,7 @@ use Rattle.laws.specs.Prelude.{_∙_, sym, ap, needs}
 use Rattle.answers.specs.AnswerMaps.{outcomeAs}
 use Rattle.laws.specs.Calls.OpenCells.{cells-sized}
 use Rattle.laws.specs.Calls.Multiplicity.{multiplicity-refused, multiplicity-judged}
+use Rattle.cells.specs.Full.{accepted-full}
 use Rattle.classes.proofs.multiplicity.multiplicity.Statement.{statement}
 use Rattle.classes.proofs.multiplicity.multiplicity.Tie as tie
 
@@ -11,7 +12,9 @@ enum-told : tie.Need-enum-told
 enum-told c = search needs
 
 group-answer-requires : tie.Need-group-answer-requires
-group-answer-requires c κs = cells-sized _ _ _ (sym (ap (outcomeAs tt) (c .enum-told .given .1)) ∙ c .before .before .full-cells .ensures)
+group-answer-requires c κs =
+    let full = sym (ap (outcomeAs tt) (c .enum-told .given .1)) ∙ c .before .before .full-cells .ensures in
+    (accepted-full _ _ _ full, cells-sized _ _ _ full .1)
 
 returns : tie.Need-returns
 returns c = multiplicity-refused _ _ _ _ _ _ (sym (ap (outcomeAs tt) (c .before .judged .given .1)) ∙ c .before .before .before .full-cells .ensures)

@@ -1,6 +1,7 @@
 -- `evaluation::gate::looked_up_values` meets its contract. The loop's invariant: the gate has its first p values. Assumes nothing.
-use Rattle.laws.specs.Prelude.{_<_, _≤_, _+_, _-_, _*_, refl, arith, length, getD}
-use Rattle.evaluation.specs.Gates.{GateDone, gate-none, gate-more, digit-there}
+use Rattle.laws.specs.Prelude.{_<_, _≤_, _+_, _-_, _*_, arith, length, getD}
+use Rattle.evaluation.specs.Lists.Runs.{run-none, column-run-more, run-all}
+use Rattle.evaluation.specs.Gates.{GateDone, digit-there, digit-read}
 use Rattle.evaluation.proofs.gate.looked_up_values.Statement.{statement}
 use Rattle.evaluation.proofs.gate.looked_up_values.Tie as tie
 
@@ -25,19 +26,17 @@ module _ (c : tie.After-slice-known2 Inv-loop μ-loop) where
 
 loop-again : tie.Need-loop-again Inv-loop μ-loop
 loop-again c =
-    let c₂ = c .before in
-    (omega arith, gate-more _ _ _ _ _ _ _ _ (l c₂ .before .pre) (l c₂ .loop .p) (l c₂ .loop .wires) (l c₂ .loop .inv .1) (turn c₂ .loop-test .taken) _ refl)
-
-returns : tie.Need-returns Inv-loop μ-loop
-returns c =
-    let l = c .before .loop in
-    record { same = l .inv .1 .same; kept = l .inv .1 .kept; new = λ p h. l .inv .1 .new p (omega (arith, c .loop-test .left)) }
+    let t = c .before in
+    let h = l t .loop in
+    let is = digit-read _ _ _ _ _ _ _ _ (l t .before .pre) (h .p) (h .wires) (h .inv .1) (turn t .loop-test .taken) in
+    (omega arith, column-run-more _ _ _ _ _ _ (h .inv .1) (omega arith) is)
 
 pub looked-up-values-spec : {M : Type 1} → statement M
 looked-up-values-spec =
     tie.close
-    (tie.spec Inv-loop μ-loop (λ c. (omega arith, gate-none _ _ _ _ _ _ _)) (λ c. omega arith) (λ c. omega arith)
+    (tie.spec Inv-loop μ-loop (λ c. (omega arith, run-none _ _ _)) (λ c. omega arith) (λ c. omega arith)
     (λ c. omega (arith, c .slice-known .given (c .before .before .before .args .left + c .before .before .loop .p))) (λ c. omega arith) (λ c. omega arith)
     (λ c. omega (arith, c .slice-known2 .given (l c .before .args .right + l c .loop .p))) (λ c. omega (arith, digit c)) (λ c. omega (arith, digit c))
     (λ c. omega (arith, digit c)) (λ c. digit (c .before)) (λ c. omega arith) (λ c. omega arith) (λ c. omega arith) (λ c. omega arith) loop-again
-    (λ c. c .before .loop .inv .1 .same) returns)
+    (λ c. c .before .loop .inv .1 .same)
+    (λ c. run-all _ _ _ _ _ _ (c .before .loop .inv .0) (c .loop-test .left) (c .before .loop .inv .1)))

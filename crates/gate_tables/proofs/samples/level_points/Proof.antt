@@ -6,10 +6,10 @@ use Rattle.gate_tables.proofs.samples.level_points.Statement.{statement
 use Rattle.gate_tables.proofs.samples.level_points.Tie as tie
 
 abbrev Inv-loop : tie.InvT-loop
-Inv-loop m w at out₀ l₀ out l = (l ≤ m) × PutAt (λ j. j * w) at l out₀ out
+Inv-loop m w out₀ l₀ out l = (l ≤ m) × PutAt (λ j. j * w) 0 l out₀ out
 
 abbrev μ-loop : tie.MeasureT-loop
-μ-loop m w at out₀ l₀ out l = m - l
+μ-loop m w out₀ l₀ out l = m - l
 
 -- a level's point is small
 small : (c : tie.In-loop Inv-loop μ-loop) → c .before .loop .l * c .before .before .args .w < 65536
@@ -19,17 +19,16 @@ loop-again : tie.Need-loop-again Inv-loop μ-loop
 loop-again c =
     let l = c .before .loop in
     let a = c .before .before .args in
-    (omega arith, put-next (λ j. j * a .w) (a .at) (l .l) (a .out .now) (l .out) (l .inv .1) (omega (arith, l .inv .1 .long)) _ refl)
+    (omega arith, put-next (λ j. j * a .w) 0 (l .l) (a .out .now) (l .out) (l .inv .1) (l .l) (omega arith) (omega (arith, l .inv .1 .long)) _ refl)
 
 returns : tie.Need-returns Inv-loop μ-loop
 returns c =
     let l = c .before .loop in
     let a = c .before .before .args in
     let end : l .l ≡ a .m = omega arith in
-    subst (λ (k : ℕ). PutAt (λ j. j * a .w) (a .at) k (a .out .now) (l .out)) end (l .inv .1)
+    subst (λ (k : ℕ). PutAt (λ j. j * a .w) 0 k (a .out .now) (l .out)) end (l .inv .1)
 
 pub level-points-spec : {M : Type 1} → statement M
 level-points-spec =
     tie.close (tie.spec Inv-loop μ-loop (λ c. (omega arith, put-none _ _ _)) (λ c. omega (arith, small c)) (λ c. omega (arith, small c)) (λ c. omega arith)
-    (λ c. omega arith) (λ c. omega (arith, c .before .loop .inv .1 .long)) (λ c. omega arith) (λ c. omega arith) loop-again
-    (λ c. c .before .loop .inv .1 .long) returns)
+    (λ c. omega (arith, c .before .loop .inv .1 .long)) (λ c. omega arith) (λ c. omega arith) loop-again (λ c. c .before .loop .inv .1 .long) returns)

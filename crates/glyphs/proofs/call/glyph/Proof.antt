@@ -10,9 +10,6 @@ use Rattle.glyphs.proofs.call.glyph.Tie as tie
 abbrev at-read : tie.After-net → tie.After-read-net
 at-read c = c .before .before
 
-enum-told : tie.Need-enum-told
-enum-told c = search needs
-
 print-accepted-requires : tie.Need-print-accepted-requires
 print-accepted-requires c κs = net-taken _ _ (at-read (c .before .before .before) .read-net .ensures) (c .before .enum-told .given .1)
 
@@ -22,4 +19,4 @@ returns c =
 
 pub glyph-spec : {M : Type 1} → statement M
 glyph-spec =
-    tie.close (tie.spec (λ c κs. search needs) (λ c. search needs) enum-told print-accepted-requires returns (λ c. search needs) (λ c. search needs))
+    tie.close (tie.spec (λ c κs. search needs) (λ c. search needs) (λ c. search needs) print-accepted-requires returns (λ c. search needs) (λ c. search needs))

@@ -1,14 +1,17 @@
 -- `glyphs::frame::frame` meets its contract. The loop's invariant: the first y rows are in the frame. Assumes nothing.
-use Rattle.laws.specs.Prelude.{ℕ, _<_, _≤_, _+_, _-_, _*_, _≡_, _∙_, sym, ap, subst, List, zero-mul, suc-mul, add-one, arith, length, take, drop, needs}
-use Rattle.glyphs.specs.Frames.{frameSize, GlyphFramed, framed-none, glyph-part-is, row-there, row-room, framed-put}
+use Rattle.laws.specs.Prelude.{ℕ, _<_, _≤_, _+_, _-_, _*_, _≡_, _∙_, sym, ap, refl, subst, List, zero-mul, suc-mul, mul-le-mul, add-one, arith}
+use Rattle.laws.specs.Prelude.{length, take, drop, length-sets, needs}
+use Rattle.glyphs.specs.Offsets.{spanOf, mostSpan}
+use Rattle.glyphs.specs.Frames.{frameSize, GlyphFraming, framing-none, framing-all, glyph-part-is, row-there, row-room, framing-more}
 use Rattle.glyphs.proofs.frame.frame.Statement.{statement}
 use Rattle.glyphs.proofs.frame.frame.Tie as tie
 
 abbrev Inv-loop : tie.InvT-loop
-Inv-loop picture width height wires₀ from₀ y₀ wires from y = (y ≤ height) × (from ≡ y * width) × GlyphFramed width y picture wires₀ wires
+Inv-loop picture width height wires₀ span from₀ y₀ wires from y =
+    (y ≤ height) × (from ≡ y * width) × (length wires ≡ length wires₀) × GlyphFraming width height picture (y + 2) wires
 
 abbrev μ-loop : tie.MeasureT-loop
-μ-loop picture width height wires₀ from₀ y₀ wires from y = height - y
+μ-loop picture width height wires₀ span from₀ y₀ wires from y = height - y
 
 -- the start from the loop's head; a turn's start from the call of `copy`, and that call from the turn's end
 abbrev at-start : tie.At-loop Inv-loop μ-loop → tie.Start Inv-loop μ-loop
@@ -21,7 +24,7 @@ abbrev at-copy : tie.After-slice-known2 Inv-loop μ-loop → tie.After-copy Inv-
 at-copy c = c .before .before
 
 loop-holds : tie.Need-loop-holds Inv-loop μ-loop
-loop-holds c = (omega arith, sym (zero-mul _), framed-none _ _ _ (c .before .before .pre .3))
+loop-holds c = (omega arith, sym (zero-mul _), refl, framing-none _ _ _ _ (c .before .before .pre .3))
 
 -- a turn: row y is within the picture, and has room in the frame
 module _ (c : tie.In-loop Inv-loop μ-loop) where
@@ -41,12 +44,7 @@ module _ (c : tie.In-loop Inv-loop μ-loop) where
   few = omega (arith, start .pre .1 .most, c .loop-test .taken)
 
   there : from + width ≤ length picture
-  there =
-      omega (
-        arith,
-        row-there width (start .args .height) (start .pre .0) (start .pre .1) picture (start .pre .2) (c .before .loop .y) (c .loop-test .taken),
-        c .before .loop .inv .1,
-      )
+  there = omega (arith, row-there width (start .args .height) picture (start .pre .2) _ (c .loop-test .taken), c .before .loop .inv .1)
 
   -- the row that is copied
   abbrev row : List ℕ
@@ -55,18 +53,20 @@ module _ (c : tie.In-loop Inv-loop μ-loop) where
   row-is : row ≡ take width (drop (c .before .loop .y * width) picture)
   row-is = glyph-part-is from width picture ∙ ap (λ (k : ℕ). take width (drop k picture)) (c .before .loop .inv .1)
 
-  room : frameSize ≤ length (c .before .loop .wires)
-  room = omega (arith, start .pre .3 .room, c .before .loop .inv .2 .same)
+  room : frameSize width (start .args .height) ≤ length (c .before .loop .wires)
+  room = omega (arith, start .pre .4, c .before .loop .inv .2)
+
+  -- the row's place is small
+  small : (c .before .loop .y + 2) * spanOf width ≤ 66 * mostSpan
+  small =
+      let rows : c .before .loop .y + 2 ≤ 66 = omega (arith, few) in
+      let wide : spanOf width ≤ mostSpan = omega (arith, start .pre .0 .most) in
+      mul-le-mul rows wide
 
 copy-requires : tie.Need-copy-requires Inv-loop μ-loop
 copy-requires c κs =
     let turn = c .before .before in
-    row-room (width turn) (start turn .args .height) (start turn .pre .0) (start turn .pre .1) (picture turn) (start turn .pre .2) (turn .before .loop .y)
-    (turn .loop-test .taken)
-    (row turn) (row-is turn) (start turn .args .wires .now) (turn .before .loop .wires) (room turn)
-
-add-from : tie.Need-add-from Inv-loop μ-loop
-add-from c = omega (arith, there (at-turn (at-copy c)), start (at-turn (at-copy c)) .good)
+    row-room _ _ (picture turn) (start turn .pre .2) _ (turn .loop-test .taken) _ (row-is turn) (turn .before .loop .wires) (room turn)
 
 loop-again : tie.Need-loop-again Inv-loop μ-loop
 loop-again c =
@@ -75,21 +75,21 @@ loop-again c =
     let next : (turn .before .loop .y + 1) * width turn ≡ turn .before .loop .y * width turn + width turn = rw (add-one, suc-mul) in (
       omega (arith, turn .loop-test .taken),
       omega (arith, inv .1, next),
-      framed-put (width turn) (start turn .args .height) (start turn .pre .0) (start turn .pre .1) (picture turn) (start turn .pre .2) (turn .before .loop .y)
-          (turn .loop-test .taken)
-          (row turn) (row-is turn) (start turn .args .wires .now) (turn .before .loop .wires) (room turn) (inv .2) _ (at-copy c .copy .ensures .text),
+      ap length (at-copy c .copy .ensures .text) ∙ length-sets (turn .before .loop .wires) _ (row turn) ∙ inv .2,
+      framing-more _ _ _ (start turn .pre .2) _ (turn .loop-test .taken) _ (row-is turn) _ (room turn) (inv .3) _ (at-copy c .copy .ensures .text),
     )
 
 returns : tie.Need-returns Inv-loop μ-loop
 returns c =
     let start = at-start (c .before) in
     let all : c .before .loop .y ≡ start .args .height = omega (arith, c .before .loop .inv .0, c .loop-test .left) in
-    subst (λ (k : ℕ). GlyphFramed (start .args .width) k (start .args .picture .now) (start .args .wires .now) (c .before .loop .wires)) all
-    (c .before .loop .inv .2)
+    framing-all _ _ _ _ (subst (λ (k : ℕ). GlyphFraming (start .args .width) (start .args .height) (start .args .picture .now) (k + 2)
+    (c .before .loop .wires)) all (c .before .loop .inv .3))
 
 pub frame-spec : {M : Type 1} → statement M
 frame-spec =
-    tie.close (tie.spec Inv-loop μ-loop loop-holds (λ c. omega (arith, there c, start c .good)) (λ c. omega arith) (λ c. search needs) (λ c. there c)
-    (λ c. omega (arith, few (c .before .before))) (λ c. omega (arith, few (c .before .before))) (λ c. omega (arith, few (c .before .before))) copy-requires
-    add-from (λ c. omega (arith, few (at-turn (at-copy c)))) (λ c. omega (arith, at-turn (at-copy c) .loop-test .taken)) loop-again
-    (λ c. c .before .loop .inv .2 .same) returns)
+    tie.close (tie.spec Inv-loop μ-loop (λ c. search needs) loop-holds (λ c. omega (arith, there c, start c .good)) (λ c. omega arith) (λ c. search needs)
+    (λ c. there c) (λ c. omega (arith, few (c .before .before))) (λ c. omega (arith, small (c .before .before)))
+    (λ c. omega (arith, small (c .before .before))) copy-requires (λ c. let turn = at-turn (at-copy c) in omega (arith, there turn, start turn .good))
+    (λ c. omega (arith, few (at-turn (at-copy c)))) (λ c. omega (arith, at-turn (at-copy c) .loop-test .taken)) loop-again (λ c. c .before .loop .inv .2)
+    returns)

@@ -1,17 +1,16 @@
 -- `glyphs::offsets::starts_of` meets its contract. The loop's invariant: the first i inputs have their starts. Assumes nothing.
-use Rattle.laws.specs.Prelude.{_<_, _≤_, _+_, _-_, _*_, _≡_, _∙_, ap, refl, arith, length, needs}
+use Rattle.laws.specs.Prelude.{ℕ, _<_, _≤_, _+_, _-_, _*_, _≡_, _∙_, ap, refl, ap₂, mul-le-mul, arith, length, needs}
 use Rattle.rules.specs.Limits.{mostInputs}
 use Rattle.rules.specs.Calls.Glyphs.{across, down}
-use Rattle.glyphs.specs.Offsets.{element, span, reach, startOf, across-there, down-there, across-near, down-near, StartsAt, glyph-starts-more}
+use Rattle.glyphs.specs.Offsets.{element, mostSpan, reach, startOf, across-there, down-there, across-near, down-near, StartsAt, glyph-starts-more}
 use Rattle.glyphs.proofs.offsets.starts_of.Statement.{statement}
 use Rattle.glyphs.proofs.offsets.starts_of.Tie as tie
 
 abbrev Inv-loop : tie.InvT-loop
-Inv-loop n offsets starts₀ i₀ starts i =
-    (i ≤ n) × StartsAt offsets i starts
+Inv-loop n offsets span y starts₀ i₀ starts i = (i ≤ n) × StartsAt offsets span y i starts
 
 abbrev μ-loop : tie.MeasureT-loop
-μ-loop n offsets starts₀ i₀ starts i = n - i
+μ-loop n offsets span y starts₀ i₀ starts i = n - i
 
 loop-holds : tie.Need-loop-holds Inv-loop μ-loop
 loop-holds c = (omega arith, record { room = refl; each = λ j h. absurd (omega arith) })
@@ -46,6 +45,14 @@ first : (c : tie.After-reach-of Inv-loop μ-loop) → c .reach-of .result ≡ re
 unfolding down
 first c = c .reach-of .ensures ∙ ap reach (element _ (c .before .down .given))
 
+-- the row that is read is small
+small : (c : tie.After-reach-of Inv-loop μ-loop) → let turn = at-turn (c .before) in
+    (start turn .args .y + c .reach-of .result ≤ 68) × ((start turn .args .y + c .reach-of .result) * start turn .args .span ≤ 68 * mostSpan)
+small c =
+    let turn = at-turn (c .before) in
+    let low : start turn .args .y + c .reach-of .result ≤ 68 = omega (arith, first c, near turn .1, start turn .pre .3) in
+    (low, mul-le-mul low (start turn .pre .2))
+
 second : (c : tie.After-reach-of2 Inv-loop μ-loop) → c .reach-of2 .result ≡ reach
     (across (start (calls-turn c) .args .offsets .now) (calls-turn c .before .loop .i))
 unfolding across
@@ -55,10 +62,11 @@ loop-again : tie.Need-loop-again Inv-loop μ-loop
 loop-again c =
     let turn = calls-turn c in
     let inv = turn .before .loop .inv in
-    let value : c .before .reach-of .result * span + c .reach-of2 .result ≡ startOf (start turn .args .offsets .now) (turn .before .loop .i) =
-    omega (arith, first (c .before), second c) in (
+    let a = start turn .args in
+    let value : (a .y + c .before .reach-of .result) * a .span + c .reach-of2 .result ≡ startOf (a .offsets .now) (a .span) (a .y) (turn .before .loop .i) =
+    ap₂ (λ (d x : ℕ). (a .y + d) * a .span + x) (first (c .before)) (second c) in (
       omega (arith, turn .loop-test .taken),
-      glyph-starts-more (start turn .args .offsets .now) (turn .before .loop .i) (turn .before .loop .starts) (inv .1) (omega (arith, few turn)) _ value,
+      glyph-starts-more (a .offsets .now) (a .span) (a .y) (turn .before .loop .i) (turn .before .loop .starts) (inv .1) (omega (arith, few turn)) _ value,
     )
 
 returns : tie.Need-returns Inv-loop μ-loop
@@ -67,6 +75,6 @@ returns c = λ i h. c .before .loop .inv .1 .each i (omega (arith, c .loop-test 
 pub starts-of-spec : {M : Type 1} → statement M
 starts-of-spec =
     tie.close (tie.spec Inv-loop μ-loop loop-holds (λ c. omega (arith, few c)) (λ c. there c .0) (λ c. omega (arith, few (c .before)))
-    (λ c. omega (arith, few (c .before))) (λ c. there (c .before) .1) (λ c κs. search needs) (λ c. omega (arith, first c, near (at-turn (c .before))))
-    (λ c κs. search needs) (λ c. omega (arith, first (c .before), second c, near (calls-turn c))) (λ c. omega (arith, few (calls-turn c)))
+    (λ c. omega (arith, few (c .before))) (λ c. there (c .before) .1) (λ c κs. search needs) (λ c. omega (arith, small c .0)) (λ c. omega (arith, small c .1))
+    (λ c κs. search needs) (λ c. omega (arith, small (c .before) .1, second c, near (calls-turn c) .0)) (λ c. omega (arith, few (calls-turn c)))
     (λ c. omega (arith, few (calls-turn c))) (λ c. omega (arith, few (calls-turn c))) (λ c. omega (arith, calls-turn c .loop-test .taken)) loop-again returns)

@@ -10,9 +10,6 @@ use Rattle.jobs.proofs.asking.mark_in.Tie as tie
 abbrev at-start : tie.After-header-lines → tie.Start
 at-start c = c .before .before .before
 
-enum-told : tie.Need-enum-told
-enum-told c = search needs
-
 mark-under-requires : tie.Need-mark-under-requires
 unfolding space
 mark-under-requires c κs =
@@ -27,4 +24,4 @@ returns c =
 
 pub mark-in-spec : {M : Type 1} → statement M
 mark-in-spec =
-    tie.close (tie.spec (λ c κs. search needs) enum-told (λ c. search needs) mark-under-requires returns (λ c. search needs))
+    tie.close (tie.spec (λ c κs. search needs) (λ c. search needs) (λ c. search needs) mark-under-requires returns (λ c. search needs))

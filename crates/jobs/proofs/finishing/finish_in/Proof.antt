@@ -24,9 +24,6 @@ front : (c : tie.After-enum-told2) → Fronted (at-start (at-read c) .args .line
 unfolding space
 front c = fronted _ _ (at-read c .header-lines .ensures) _ _ (c .enum-told2 .given .1)
 
-enum-told : tie.Need-enum-told
-enum-told c = search needs
-
 power-requires : tie.Need-power-requires
 power-requires c κs = let size = front-size _ _ (front c) in (size .levels-most, omega (arith, size .inputs-most))
 
@@ -49,5 +46,5 @@ returns-2 c =
 
 pub finish-in-spec : {M : Type 1} → statement M
 finish-in-spec =
-    tie.close (tie.spec (λ c κs. search needs) enum-told (λ c. search needs) power-requires (λ c. search needs) (λ c. search needs) part-finish-under-end
-    (λ c κs. front (at-power c .before)) returns (λ c. search needs) (λ c. search needs) (λ c. search needs) returns-2)
+    tie.close (tie.spec (λ c κs. search needs) (λ c. search needs) (λ c. search needs) power-requires (λ c. search needs) (λ c. search needs)
+    part-finish-under-end (λ c κs. front (at-power c .before)) returns (λ c. search needs) (λ c. search needs) (λ c. search needs) returns-2)

@@ -27,9 +27,6 @@ may : (c : tie.After-enum-told) →
     (start .args .passed) marks)
 may c marks = sym (ap (outcomeAs tt) (c .enum-told .given .1)) ∙ at-judged c .may-finish .ensures marks
 
-enum-told : tie.Need-enum-told
-enum-told c = search needs
-
 make-table-requires : tie.Need-make-table-requires
 make-table-requires c κs =
     let start = at-start (at-judged (at-told c)) in
@@ -50,5 +47,5 @@ returns-2 c =
 
 pub finish-under-spec : {M : Type 1} → statement M
 finish-under-spec =
-    tie.close (tie.spec (λ c κs. search needs) (λ c. search needs) enum-told make-table-requires returns (λ c. search needs) (λ c. search needs)
+    tie.close (tie.spec (λ c κs. search needs) (λ c. search needs) (λ c. search needs) make-table-requires returns (λ c. search needs) (λ c. search needs)
     (λ c. search needs) returns-2)

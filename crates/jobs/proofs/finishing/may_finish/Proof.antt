@@ -21,9 +21,6 @@ good : (c : tie.After-enum-told) →
     accepted tt ≡ fullCells (a .h .levels) (a .h .inputs) (a .inks .now)
 good c = sym (ap (outcomeAs tt) (c .enum-told .given .1)) ∙ at-bare c .full-cells .ensures
 
-enum-told : tie.Need-enum-told
-enum-told c = search needs
-
 power-requires : tie.Need-power-requires
 power-requires c κs =
     let start = at-start (at-bare c) in
@@ -51,4 +48,5 @@ returns-3 c =
 
 pub may-finish-spec : {M : Type 1} → statement M
 may-finish-spec =
-    tie.close (tie.spec (λ c κs. search needs) (λ c. search needs) enum-told power-requires sub-groups (λ c. search needs) returns returns-2 returns-3)
+    tie.close (tie.spec (λ c κs. search needs) (λ c. search needs) (λ c. search needs) power-requires sub-groups (λ c. search needs) returns returns-2
+    returns-3)

@@ -10,9 +10,6 @@ use Rattle.jobs.proofs.next.next_mark.Tie as tie
 abbrev at-start : tie.After-header-lines → tie.Start
 at-start c = c .before .before .before .before
 
-enum-told : tie.Need-enum-told
-enum-told c = search needs
-
 next-under-requires : tie.Need-next-under-requires
 unfolding space
 next-under-requires c κs =
@@ -27,4 +24,4 @@ returns c =
 
 pub next-mark-spec : {M : Type 1} → statement M
 next-mark-spec =
-    tie.close (tie.spec (λ c κs. search needs) enum-told (λ c. search needs) next-under-requires returns (λ c. search needs))
+    tie.close (tie.spec (λ c κs. search needs) (λ c. search needs) (λ c. search needs) next-under-requires returns (λ c. search needs))

@@ -55,13 +55,14 @@ mark-one-requires c κs =
     let power = at-power cells in
     let start = at-start power in
     let room = front-groups (start .args .lines .now) (start .args .h) (start .pre .0) in
-    let long = part-length (power .power .result) (start .args .marks .now) (omega (arith, power .power .ensures, room, start .pre .2)) in (
-      start .pre .0 .held .fits,
-      part-length (cells .power2 .result) (start .args .cells .now) (omega (arith, cells .power2 .ensures, size start .cells-most, start .pre .1))
-          ∙ cells .power2 .ensures,
-      omega (arith, power .power .ensures, cells .before .if1 .left),
-      omega (arith, long, power .power .ensures),
-    )
+    let long = part-length (power .power .result) (start .args .marks .now) (omega (arith, power .power .ensures, room, start .pre .2)) in
+    record {
+      fits = start .pre .0 .held .fits;
+      count = part-length (cells .power2 .result) (start .args .cells .now) (omega (arith, cells .power2 .ensures, size start .cells-most, start .pre .1))
+          ∙ cells .power2 .ensures;
+      group = omega (arith, power .power .ensures, cells .before .if1 .left);
+      room = omega (arith, long, power .power .ensures);
+    }
 
 returns-2 : tie.Need-returns-2
 returns-2 c =

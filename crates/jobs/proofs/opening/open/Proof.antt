@@ -13,9 +13,6 @@ at-read c = c .before .before .before .before
 abbrev at-told : tie.After-inks3 → tie.After-enum-told
 at-told c = c .before .before
 
-enum-told : tie.Need-enum-told
-enum-told c = search needs
-
 power-requires : tie.Need-power-requires
 power-requires c κs =
     let size = held-size _ _ (at-read c .read-full .ensures .held (c .enum-told .given .1) .header) in
@@ -46,5 +43,5 @@ returns-2 c =
 
 pub open-spec : {M : Type 1} → statement M
 open-spec =
-    tie.close (tie.spec (λ c. search needs) (λ c κs. search needs) (λ c. search needs) (λ c κs. search needs) enum-told power-requires (λ c. search needs)
-    (λ c. search needs) part-new-job-end new-job-requires returns returns-2)
+    tie.close (tie.spec (λ c. search needs) (λ c κs. search needs) (λ c. search needs) (λ c κs. search needs) (λ c. search needs) power-requires
+    (λ c. search needs) (λ c. search needs) part-new-job-end new-job-requires returns returns-2)

@@ -8,21 +8,17 @@ use Rattle.loose_sheets.specs.Tidying.{loose-taken, loose-refused, not-i
 use Rattle.loose_sheets.proofs.tidy.tidy_loose.Statement.{statement}
 use Rattle.loose_sheets.proofs.tidy.tidy_loose.Tie as tie
 
--- gets the sheet's read from the match on its outcome
-abbrev at-read : tie.After-header → tie.After-read-loose
-at-read c = c .before .before
-
 read-loose-requires : tie.Need-read-loose-requires
 read-loose-requires c κs = (omega (arith, length-replicate {A = ℕ} mostCells 0), zeros-blank mostCells)
 
 tidy-accepted-requires : tie.Need-tidy-accepted-requires
 tidy-accepted-requires c κs =
     let told = c .before .before .before in
-    let did = at-read (told .before .before) .read-loose in
+    let did = told .before .before .before .read-loose in
     (loose-taken _ _ _ (did .ensures) (omega (arith, did .kept .1 .0, length-replicate {A = ℕ} mostCells 0)) (told .enum-told .given .1), not-itself _ _ _)
 
 returns : tie.Need-returns
-returns c = sym (tidy-refused _ _ _ _ _ (loose-refused _ _ _ (at-read (c .before .before .before) .read-loose .ensures) _ _ (c .before .outcome .given .1)))
+returns c = sym (tidy-refused _ _ _ _ _ (loose-refused _ _ _ (c .before .before .before .before .read-loose .ensures) _ _ (c .before .outcome .given .1)))
 
 pub tidy-loose-spec : {M : Type 1} → statement M
 tidy-loose-spec =

@@ -9,7 +9,7 @@ abbrev at-start : tie.After-read-input → tie.Start
 at-start c = c .before .before .before .before .before .before .before .before
 
 abbrev at-read : tie.After-enum-told → tie.After-read-input
-at-read c = c .before .before .before .before
+at-read c = c .before .before .before
 
 abbrev at-told : tie.After-settle-marked-arg4 → tie.After-enum-told
 at-told c = c .before .before .before .before .before
@@ -24,7 +24,7 @@ settle-marked-requires c κs =
 
 returns : tie.Need-returns
 returns c =
-    let read = c .before .before .before .before .before in
+    let read = c .before .before .before .before in
     let a = at-start read .args in
     makes-turned (a .choice) (a .s .now) (a .cells .now) (a .marks .now) (a .out .now) (read .read-input .ensures .refused _ _ (c .before .outcome .given .1))
 

@@ -7,7 +7,7 @@ use Rattle.settling.proofs.chosen.settle_by.Tie as tie
 
 -- gets the sheet's read, the match on it and the call of `settle_net`, each from the next
 abbrev at-read : tie.After-enum-told → tie.After-read-net
-at-read c = c .before .before .before .before
+at-read c = c .before .before
 
 abbrev at-start : tie.After-read-net → tie.Start
 at-start c = c .before .before .before .before .before
@@ -23,9 +23,9 @@ settle-net-requires c κs = net-taken _ _ (at-read (at-told c) .read-net .ensure
 
 returns : tie.Need-returns
 returns c =
-    let a = at-start (c .before .before .before .before .before) .args in
+    let a = at-start (c .before .before .before) .args in
     sym (settles-refused (a .choice) (a .s .now) (a .cells .now) (a .marks .now) (a .out .now) _ _
-    (net-refused _ _ (c .before .before .before .before .before .read-net .ensures) _ _ (c .before .outcome .given .1)))
+    (net-refused _ _ (c .before .before .before .read-net .ensures) _ _ (c .before .outcome .given .1)))
 
 returns-2 : tie.Need-returns-2
 returns-2 c = at-settled c .settle-net .ensures

@@ -27,7 +27,7 @@ at-tree c = c .before
 abbrev at-leaves : tie.After-made-net → tie.After-leaves
 at-leaves c = c .before .before
 
-abbrev at-sheet : tie.After-slice-known6 → tie.After-write-sheet
+abbrev at-sheet : tie.After-slice-known6 → tie.After-write-layered
 at-sheet c = c .before .before
 
 abbrev marks-start : tie.After-mark-and-store → tie.Start
@@ -84,32 +84,28 @@ made-net-requires c κs =
       leaves .leaves .ensures _ _ (did .ensures .1),
     )
 
-write-sheet-requires : tie.Need-write-sheet-requires
-write-sheet-requires c κs =
-    let made = c .before .before in
-    let g = net-start made .pre .0 in
-    (g .names, made-inside _ _ _ g _ (made .made-net .ensures), settling-made-short _ _ _ g _ (made .made-net .ensures))
+write-layered-requires : tie.Need-write-layered-requires
+write-layered-requires c κs =
+    let g = net-start (c .before) .pre .0 in
+    let is = c .before .made-net .ensures in
+    (g .names, made-inside _ _ _ g _ is, settling-made-short _ _ _ g _ is, made-sound _ _ _ g _ is)
 
 returns-2 : tie.Need-returns-2
 returns-2 c =
-    let wrote = at-sheet (c .before) in
-    let counts = wrote .before .before in
-    let made = counts .before in
+    let wrote = at-sheet c in
+    let made = wrote .before .before in
     let tree = at-tree (at-leaves made) in
     let marks = at-marks tree in
     let start = marks-start marks in
     given-tree _ _ _ (start .pre .0) _ _ _ _ (marks .mark-and-store .ensures .0) (start .args .choice) _ _ _
-    (put-wrote (start .pre .1) (at-copy (marks .before) .copy .ensures) .text) (tree .if1 .left) _ (made .made-net .ensures)
-    (wrote .write-sheet .result) _ (wrote .write-sheet .ensures) (counts .layers .result) (counts .layers .ensures) (c .with-layers .result)
-    (c .with-layers .ensures)
+    (put-wrote (start .pre .1) (at-copy (marks .before) .copy .ensures) .text) (tree .if1 .left) _ (made .made-net .ensures) (wrote .write-layered .result) _
+    (wrote .write-layered .ensures _ _)
 
 same-length-3 : tie.Need-same-length-3
-same-length-3 c =
-    let marks = at-marks (at-tree (at-leaves (at-sheet (c .before) .before .before .before))) in
-    at-copy (marks .before) .copy .kept .1 .0
+same-length-3 c = at-copy (at-marks (at-tree (at-leaves (at-sheet c .before .before))) .before) .copy .kept .1 .0
 
 pub settle-marked-spec : {M : Type 1} → statement M
 settle-marked-spec =
     tie.close (tie.spec (λ c κs. search needs) (λ c. search needs) mark-and-store-requires (λ c. search needs) no-tree-place-requires (λ c. search needs)
-    (λ c. search needs) returns leaves-requires (λ c. search needs) made-net-requires (λ c κs. made-sound _ _ _ (net-start c .pre .0) _ (c .made-net .ensures))
-    write-sheet-requires (λ c κs. search needs) same-length-3 (λ c. search needs) (λ c. search needs) returns-2)
+    (λ c. search needs) returns leaves-requires (λ c. search needs) made-net-requires write-layered-requires same-length-3 (λ c. search needs)
+    (λ c. search needs) returns-2)

@@ -1,9 +1,9 @@
 -- `capi::numbers::turn::flat_turn` meets its contract, in each arm. Assumes nothing.
 use Rattle.laws.specs.Prelude.{_∙_, sym, ap, needs}
-use Rattle.net_sheets.specs.declared.lister.calls.Listed.{Listed}
-use Rattle.net_sheets.specs.declared.lister.calls.Listed.the-variants.{Given}
-use Rattle.net_sheets.specs.declared.lister.turns.Turn.{Turn}
-use Rattle.net_sheets.specs.Lister.Calls.{listedAs, turnAs}
+use Rattle.lister.specs.declared.calls.Listed.{Listed}
+use Rattle.lister.specs.declared.calls.Listed.the-variants.{Given}
+use Rattle.lister.specs.declared.turns.Turn.{Turn}
+use Rattle.lister.specs.Calls.{listedAs, turnAs}
 use Rattle.capi.specs.Numbers.Turn.{flatTurn}
 use Rattle.capi.proofs.numbers.turn.flat_turn.Statement.{statement}
 use Rattle.capi.proofs.numbers.turn.flat_turn.Tie as tie

@@ -1,6 +1,7 @@
 -- `evaluation::fast::two_levels::two_level_values` meets its contract. The loop's invariant: the gate has its first p values. Assumes nothing.
 use Rattle.laws.specs.Prelude.{_<_, _≤_, _+_, _-_, _∙_, arith, getD}
-use Rattle.evaluation.specs.Gates.{GateDone, gate-none, gate-more, read-below}
+use Rattle.evaluation.specs.Lists.Runs.{run-none, column-run-more, run-all}
+use Rattle.evaluation.specs.Gates.{GateDone, digit-read, read-below}
 use Rattle.evaluation.specs.Fast.TwoLevels.{four-digits}
 use Rattle.evaluation.proofs.fast.two_levels.two_level_values.Statement.{statement}
 use Rattle.evaluation.proofs.fast.two_levels.two_level_values.Tie as tie
@@ -28,19 +29,16 @@ module _ (c : tie.After-slice-known3 Inv-loop μ-loop) where
 loop-again : tie.Need-loop-again Inv-loop μ-loop
 loop-again c =
     let h = l (c .before) in
-    let pair = below (c .before) in (
+    let pair = below (c .before) in
+    let is = c .two-level-digit .ensures ∙ four-digits (start h .args .digits .now) (start h .args .from) _ _ (pair .0) (pair .1) in (
       omega arith,
-      gate-more _ _ _ _ _ _ _ _ (start h .pre) (h .loop .p) (h .loop .wires) (h .loop .inv .1) (turn (c .before) .loop-test .taken) _
-          (c .two-level-digit .ensures ∙ four-digits (start h .args .digits .now) (start h .args .from) _ _ (pair .0) (pair .1)),
+      column-run-more _ _ _ _ _ _ (h .loop .inv .1) (omega arith)
+          (is ∙ digit-read _ _ _ _ _ _ _ _ (start h .pre) (h .loop .p) (h .loop .wires) (h .loop .inv .1) (turn (c .before) .loop-test .taken)),
     )
-
-returns : tie.Need-returns Inv-loop μ-loop
-returns c =
-    let l = c .before .loop in
-    record { same = l .inv .1 .same; kept = l .inv .1 .kept; new = λ p h. l .inv .1 .new p (omega (arith, c .loop-test .left)) }
 
 pub two-level-values-spec : {M : Type 1} → statement M
 two-level-values-spec =
     tie.close (tie.spec Inv-loop μ-loop (λ c. omega arith) (λ c. omega arith) (λ c. omega arith) (λ c. omega arith) (λ c. omega arith) (λ c. omega arith)
-    (λ c. omega arith) (λ c. (omega arith, gate-none _ _ _ _ _ _ _)) (λ c. omega arith) (λ c. omega arith) (λ c. omega arith) (λ c. omega arith)
-    (λ c κs. below c) (λ c. omega arith) (λ c. omega arith) (λ c. omega arith) (λ c. omega arith) loop-again (λ c. c .before .loop .inv .1 .same) returns)
+    (λ c. omega arith) (λ c. (omega arith, run-none _ _ _)) (λ c. omega arith) (λ c. omega arith) (λ c. omega arith) (λ c. omega arith)
+    (λ c κs. below c) (λ c. omega arith) (λ c. omega arith) (λ c. omega arith) (λ c. omega arith) loop-again (λ c. c .before .loop .inv .1 .same)
+    (λ c. run-all _ _ _ _ _ _ (c .before .loop .inv .0) (c .loop-test .left) (c .before .loop .inv .1)))

@@ -25,9 +25,6 @@ marks-length c = sym (length-map (c .args .self .marks) (λ v. v)) ∙ c .good .
 next-mark-requires : tie.Need-next-mark-requires
 next-mark-requires c κs = (omega (arith, cells-length (at-start c)), omega (arith, marks-length (at-start c)))
 
-enum-told : tie.Need-enum-told
-enum-told c = search needs
-
 marked-requires : tie.Need-marked-requires
 unfolding jobIn
 marked-requires c κs = subst (NextMark (jobOf (at-start (at-next c .before) .args .self))) (c .before .found .given .1) (at-next c .next-mark .ensures) .1
@@ -46,5 +43,5 @@ returns-2 c =
 
 pub step-spec : {M : Type 1} → statement M
 step-spec =
-    tie.close (tie.spec (λ c. search needs) (λ c. search needs) (λ c. search needs) next-mark-requires enum-told (λ c. search needs) marked-requires returns
-    returns-2)
+    tie.close (tie.spec (λ c. search needs) (λ c. search needs) (λ c. search needs) next-mark-requires (λ c. search needs) (λ c. search needs)
+    marked-requires returns returns-2)

@@ -8,9 +8,9 @@ use Rattle.loose_sheets.proofs.reader.row.row.Tie as tie
 
 -- gets the start from the index's read, and that read from the mark's
 abbrev at-start : tie.After-index-fields → tie.Start
-at-start c = c .before .before .before .before .before .before
+at-start c = c .before .before .before .before
 
-abbrev at-index : tie.After-shared-slice-known6 → tie.After-index-fields
+abbrev at-index : tie.After-shared-slice-known4 → tie.After-index-fields
 at-index c = c .before .before .before .before
 
 shared-slice-read-if1 : tie.Need-shared-slice-read-if1

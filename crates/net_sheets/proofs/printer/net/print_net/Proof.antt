@@ -9,10 +9,7 @@ use Rattle.net_sheets.specs.Printer.Gates.{printedGates, net-parts}
 use Rattle.net_sheets.proofs.printer.net.print_net.Statement.{statement}
 use Rattle.net_sheets.proofs.printer.net.print_net.Tie as tie
 
--- gets the start and each call from the next
-abbrev at-start : tie.After-print-pair-arg2 → tie.Start
-at-start c = c .before .before .before .before
-
+-- gets each call from the next
 abbrev at-pair : tie.After-print-names-line-arg → tie.After-print-pair
 at-pair c = c .before .before .before
 
@@ -24,7 +21,7 @@ at-copy c = c .before .before .before
 
 -- gets the start from each call
 abbrev pair-start : tie.After-print-pair → tie.Start
-pair-start c = at-start (c .before)
+pair-start c = c .before .before .before .before .before
 
 abbrev names-start : tie.After-print-names-line → tie.Start
 names-start c = pair-start (at-pair (c .before))
@@ -68,7 +65,9 @@ after-fourth c = put-left (after-names (at-names (c .before))) (c .copy .ensures
 
 print-pair-requires : tie.Need-print-pair-requires
 unfolding line text space newline
-print-pair-requires c κs = room-for (firstTwo (at-start c)) (third (at-start c) ++ (fourth ++ gates (at-start c))) (start (at-start c))
+print-pair-requires c κs =
+    let entry = c .before .before .before .before in
+    room-for (firstTwo entry) (third entry ++ (fourth ++ gates entry)) (start entry)
 
 print-names-line-requires : tie.Need-print-names-line-requires
 print-names-line-requires c κs =

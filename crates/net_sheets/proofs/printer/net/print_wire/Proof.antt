@@ -1,36 +1,38 @@
--- `net_sheets::printer::net::print_wire` meets its contract: after the reference, the space is left to write.
+-- `net_sheets::printer::net::print_wire` meets its contract: the text of a reference is a name or a number.
 -- Assumes nothing.
-use Rattle.laws.specs.Prelude.{ℕ, List, [], _∷_, _++_, needs}
+use Rattle.laws.specs.Prelude.{needs}
 use Rattle.rules.specs.Text.{space}
-use Rattle.net_sheets.specs.Printer.Gates.{referenceIn}
-use Rattle.net_sheets.specs.Text.Put.{NetLeft, all-left, put-left, room-for, room-byte, last-put}
+use Rattle.net_sheets.specs.Printer.Gates.{reference-name, reference-gate}
 use Rattle.net_sheets.proofs.printer.net.print_wire.Statement.{statement}
 use Rattle.net_sheets.proofs.printer.net.print_wire.Tie as tie
 
--- gets the start and each call from the next
-abbrev at-start : tie.After-print-reference-arg → tie.Start
-at-start c = c .before .before .before
-
-abbrev at-reference : tie.After-put-arg → tie.After-print-reference
-at-reference c = c .before .before .before
-
-abbrev field : tie.Start → List ℕ
-field c = referenceIn (c .args .s .now) (c .args .h) (c .args .r)
-
-start : (c : tie.Start) → NetLeft (c .args .out .now) (c .args .at) (field c ++ (space ∷ [])) (c .args .out .now) (c .args .at) (field c ++ (space ∷ []))
-start c = all-left (c .pre .1)
-
-after-reference : (c : tie.After-print-reference)
-    → NetLeft (c .print-reference .last .1 .1 .1 .0) (c .print-reference .result) (space ∷ []) (at-start (c .before) .args .out .now)
-    (at-start (c .before) .args .at) (field (at-start (c .before)) ++ (space ∷ []))
-after-reference c = put-left (start (at-start (c .before))) (c .print-reference .ensures)
-
-print-reference-requires : tie.Need-print-reference-requires
-print-reference-requires c κs = (at-start c .pre .0, room-for (field (at-start c)) (space ∷ []) (start (at-start c)))
+print-name-requires : tie.Need-print-name-requires
+unfolding space
+print-name-requires c κs =
+    let start = c .before .before .before .before in
+    let small = c .before .if1 .taken in
+    (start .pre .0, small, rw (reference-name (start .args .s .now) (start .args .h) (start .args .r) small) at (start .pre .1))
 
 returns : tie.Need-returns
 unfolding space
-returns c = last-put (after-reference (at-reference (c .before .before .before))) (c .before .before .put .ensures)
+returns c =
+    let called = c .before .before in
+    let start = called .before .before .before .before .before in
+    rw (reference-name (start .args .s .now) (start .args .h) (start .args .r) (called .before .before .if1 .taken)) (called .print-name .ensures)
+
+print-decimal-requires : tie.Need-print-decimal-requires
+unfolding space
+print-decimal-requires c κs =
+    let start = c .before .before .before .before in
+    rw (reference-gate (start .args .s .now) (start .args .h) (start .args .r) (c .before .if1 .left)) at (start .pre .1)
+
+returns-2 : tie.Need-returns-2
+unfolding space
+returns-2 c =
+    let called = c .before .before in
+    let start = called .before .before .before .before .before in
+    rw (reference-gate (start .args .s .now) (start .args .h) (start .args .r) (called .before .before .if1 .left)) (called .print-decimal .ensures)
 
 pub print-wire-spec : {M : Type 1} → statement M
-print-wire-spec = tie.close (tie.spec print-reference-requires (λ c κs. room-byte (after-reference (at-reference c))) (λ c. search needs) returns)
+print-wire-spec =
+    tie.close (tie.spec print-name-requires (λ c. search needs) returns (λ c. search needs) print-decimal-requires (λ c. search needs) returns-2)

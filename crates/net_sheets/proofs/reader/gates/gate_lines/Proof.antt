@@ -6,7 +6,8 @@ use Rattle.nets.specs.Forms.{gatesOf}
 use Rattle.nets.specs.Room.{mostDigits}
 use Rattle.net_sheets.specs.Reader.Gates.{LineHeld}
 use Rattle.net_sheets.specs.Reader.Keys.{none-keyed}
-use Rattle.net_sheets.specs.Reader.GateLines.{Building, build-start, build-done, built-line, build-room, build-grown, build-back, build-end, build-next}
+use Rattle.net_sheets.specs.Reader.GateLines.{Building, GateRoom, gate-place, build-start, build-done, built-line, build-room, build-back, build-end}
+use Rattle.net_sheets.specs.Reader.GateLines.{build-next}
 use Rattle.net_sheets.proofs.reader.gates.gate_lines.Statement.{statement}
 use Rattle.net_sheets.proofs.reader.gates.gate_lines.Tie as tie
 
@@ -32,6 +33,9 @@ more-at c = c .before .before .before .before .before .if1 .taken
 size-at : (c : tie.At-loop Inv-loop μ-loop) → Size (at-start c .args .header .levels) (at-start c .args .header .inputs)
 size-at c = sized _ _ (at-start c .pre .fits)
 
+room-at : (c : tie.After-gate-line Inv-loop μ-loop) → GateRoom (at-start (at-loop c) .args .header .inputs) (at-loop c .loop .net .gates)
+room-at c = gate-place _ _ (size-at (at-loop c) .inputs-most) (more-at c)
+
 mul-size : tie.Need-mul-size Inv-loop μ-loop
 mul-size c =
     let size = sized _ _ (c .before .before .pre .fits) in
@@ -46,7 +50,7 @@ gate-line-requires : tie.Need-gate-line-requires Inv-loop μ-loop
 gate-line-requires c κs =
     let test = c .before .before .before .before in
     let size = size-at (test .before .before) in
-    (size .levels-most, omega (arith, size .inputs-most, test .if1 .taken))
+    (size .levels-most, gate-place _ _ (size .inputs-most) (test .if1 .taken) .count)
 
 returns : tie.Need-returns Inv-loop μ-loop
 returns c =
@@ -75,36 +79,26 @@ copy-digits-requires c κs =
     (line .digits .within, omega (arith, room (c .before)), at-loop (at-line (c .before)) .loop .inv .form .digits, line .digits .digits)
 
 element-write-net : tie.Need-element-write-net Inv-loop μ-loop
-element-write-net c =
-    let line = at-line (c .before .before) in
-    omega (arith, size-at (at-loop line) .inputs-most, more-at line)
+element-write-net c = room-at (at-line (c .before .before)) .place
 
 returns-2 : tie.Need-returns-2 Inv-loop μ-loop
 returns-2 c =
     let gate = c .before .before .before in
     let line = at-line gate in
-    let inv = at-loop line .loop .inv in
-    build-end _ _ _ _ _ _ _ _ inv (more-at line) _ _ (line .gate-line .ensures) _ _ _ _ (gate .before .line2 .given .1) _
-    (build-grown _ _ _ _ _ _ _ _ inv (more-at line) _ _ (line .gate-line .ensures) (at-start (at-loop line) .pre) _ _ _ _ (gate .before .line2 .given .1) _
-    (c .before .copy-digits .ensures))
-    (c .if2 .taken)
+    build-end _ _ _ _ _ _ _ _ (at-loop line .loop .inv) (more-at line) _ _ (line .gate-line .ensures) (at-start (at-loop line) .pre) _ _ _ _
+    (gate .before .line2 .given .1) _ (c .before .copy-digits .ensures) (c .if2 .taken)
 
 key-number-requires : tie.Need-key-number-requires Inv-loop μ-loop
 key-number-requires c κs =
-    let line = at-line (c .before .before .before .before .before) in
-    let most = size-at (at-loop line) .inputs-most in
-    (omega (arith, more-at line), omega (arith, more-at line))
+    let room = room-at (at-line (c .before .before .before .before .before)) in (room .wires, room .number)
 
 loop-again : tie.Need-loop-again Inv-loop μ-loop
 loop-again c =
     let written = c .before .before .before .before in
     let gate = written .before .before in
     let line = at-line gate in
-    let inv = at-loop line .loop .inv in
-    build-next _ _ _ _ _ _ _ _ inv (more-at line) _ _ (line .gate-line .ensures) _ _ _ _ (gate .before .line2 .given .1) _
-    (build-grown _ _ _ _ _ _ _ _ inv (more-at line) _ _ (line .gate-line .ensures) (at-start (at-loop line) .pre) _ _ _ _ (gate .before .line2 .given .1) _
-    (written .copy-digits .ensures))
-    (c .before .before .before .if2 .left) _ _ (c .key-number .ensures)
+    build-next _ _ _ _ _ _ _ _ (at-loop line .loop .inv) (more-at line) _ _ (line .gate-line .ensures) (at-start (at-loop line) .pre) _ _ _ _
+    (gate .before .line2 .given .1) _ (written .copy-digits .ensures) (c .before .before .before .if2 .left) _ _ (c .key-number .ensures)
 
 returns-3 : tie.Need-returns-3 Inv-loop μ-loop
 returns-3 c = build-done _ _ _ _ _ _ _ _ (c .before .before .loop .inv) (size-at (c .before .before) .inputs-least) (c .if1 .left)

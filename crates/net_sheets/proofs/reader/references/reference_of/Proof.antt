@@ -1,11 +1,11 @@
 -- `net_sheets::reader::references::reference_of` meets its contract. The loop's invariant: the first match from `r` on is the first of all.
 -- Assumes nothing.
-use Rattle.laws.specs.Prelude.{ℕ, _-_, _≡_, _∙_, sym, refl, List, sub-zero, arith}
+use Rattle.laws.specs.Prelude.{ℕ, _-_, _≡_, _∙_, sym, refl, List, sub-zero, lt-of-lt-of-le, arith}
 use Rattle.rules.specs.Lists.{range, find, same}
 use Rattle.rules.specs.Sheets.Sheets.{referenceText}
 use Rattle.laws.specs.Lists.Walks.{find-next, find-stop, find-end}
 use Rattle.net_sheets.specs.Reader.Keys.{Keyed}
-use Rattle.net_sheets.specs.Reader.References.{long-refers}
+use Rattle.net_sheets.specs.Reader.References.{at-below, nowhere-below, long-refers}
 use Rattle.net_sheets.proofs.reader.references.reference_of.Statement.{statement}
 use Rattle.net_sheets.proofs.reader.references.reference_of.Tie as tie
 
@@ -22,7 +22,7 @@ abbrev at-turn : tie.After-same-key Inv-loop μ-loop → tie.In-loop Inv-loop μ
 at-turn c = c .before .before .before
 
 element-copy-out-same-key : tie.Need-element-copy-out-same-key Inv-loop μ-loop
-element-copy-out-same-key c = omega (arith, c .loop-test .taken, c .before .before .before .before .before .pre)
+element-copy-out-same-key c = lt-of-lt-of-le (c .loop-test .taken) (c .before .before .before .before .before .pre)
 
 returns-2 : tie.Need-returns-2 Inv-loop μ-loop
 returns-2 c =
@@ -34,7 +34,7 @@ returns-2 c =
           let text = keyed .each r below in
           let told = c .before .same-key .ensures _ _ (turn .before .before .key-of .ensures) refl (text .is) (text .long) in
           sym (find-stop _ r _ below (sym told ∙ c .if2 .taken)) ∙ turn .before .loop .inv names keyed;
-      below = λ k e. let same-place : r ≡ k = cc in omega (arith, below);
+      below = λ k. at-below _ r k below;
     }
 
 loop-again : tie.Need-loop-again Inv-loop μ-loop
@@ -50,7 +50,7 @@ returns-3 : tie.Need-returns-3 Inv-loop μ-loop
 returns-3 c =
     record {
       finds = λ names keyed. sym (find-end _ (c .before .loop .r) _ (c .loop-test .left)) ∙ c .before .loop .inv names keyed;
-      below = λ k e. absurd (let z : _≡_ {A = ℕ} 0 1 = cc in omega arith);
+      below = nowhere-below _;
     }
 
 pub reference-of-spec : {M : Type 1} → statement M

@@ -1,153 +1,58 @@
 -- `net_sheets::text::decimals::print_decimal` meets its contract. The measure is the number; from 10 on the decimal value of k / 10
--- is written first, and one digit is left.
+-- is written first, with the last digit after it.
 -- Assumes nothing.
-use Rattle.laws.specs.Prelude.{ℕ, _<_, _≤_, _+_, _%_, _/_, List, [], _∷_, _++_, arith, length, needs}
+use Rattle.laws.specs.Prelude.{ℕ, _<_, _≤_, _+_, _%_, _/_, _≡_, ap, List, [], _∷_, _++_, arith, needs}
 use borrow.Fn.Kinds.{In}
 use borrow.Fn.PlainCycle.{Measures, is, falls, and}
-use Rattle.rules.specs.Text.{digitByte, decimal}
-use Rattle.net_sheets.specs.Text.Put.{NetLeft, parts-left, put-left, room-for, last-put}
+use Rattle.rules.specs.Text.{digitByte, zeroByte, decimal}
+use Rattle.net_sheets.specs.Text.Put.{PutRoom, NetLeft, parts-left, put-left, room-for, room-byte, last-put}
 use Rattle.laws.specs.Numbers.Decimals.{decimal-one, decimal-more}
-use Rattle.net_sheets.proofs.text.decimals.print_decimal.Reads as print-decimal
-use Rattle.net_sheets.proofs.text.decimals.print_decimal.Kinds as print-decimal-kinds
-use Rattle.net_sheets.proofs.text.decimals.+print_decimal.Lts-print_decimal as print-decimal-lts
-use Rattle.net_sheets.proofs.text.put.put_digit.Reads as put-digit-reads
+use Rattle.net_sheets.proofs.text.decimals.print_decimal.Reads as own
+use Rattle.net_sheets.proofs.text.decimals.print_decimal.Kinds.{ps}
+use Rattle.net_sheets.proofs.text.decimals.+print_decimal.Lts-print_decimal.{spec}
+use Rattle.net_sheets.proofs.text.put.put.Reads as put
 use Rattle.net_sheets.proofs.text.decimals.+print_decimal.{statement}
 use Rattle.net_sheets.proofs.text.decimals.+print_decimal.Tie.{close}
 
-abbrev μ-print-decimal : Measures 1 print-decimal-kinds.ps ℕ
-μ-print-decimal κs a = a .0
+abbrev μ : Measures 1 ps ℕ
+μ κs a = a .0
 
-abbrev print-decimal-at : ℕ → In 1 print-decimal-kinds.ps
-print-decimal-at t =
-    and 1 print-decimal-kinds.ps (is 1 print-decimal-kinds.ps μ-print-decimal t) print-decimal.Pre
+abbrev at-measure : ℕ → In 1 ps
+at-measure t = and 1 ps (is 1 ps μ t) own.Pre
 
-abbrev print-decimal-below : ℕ → In 1 print-decimal-kinds.ps
-print-decimal-below t =
-    and
-    1
-    print-decimal-kinds.ps
-    (falls 1 print-decimal-kinds.ps _<_ μ-print-decimal t)
-    print-decimal.Pre
+abbrev below-measure : ℕ → In 1 ps
+below-measure t = and 1 ps (falls 1 ps _<_ μ t) own.Pre
 
--- gets the start from the recursive call
-abbrev at-start : (t : ℕ) → print-decimal-lts.After-print-decimal (
-  put-digit-reads.Asked,
-  put-digit-reads.Learnt,
-  print-decimal-below t,
-  print-decimal.Post,
-) (print-decimal-at t) print-decimal.Post → print-decimal-lts.Start (
-  put-digit-reads.Asked,
-  put-digit-reads.Learnt,
-  print-decimal-below t,
-  print-decimal.Post,
-) (print-decimal-at t) print-decimal.Post
-at-start t c = c .before .before .before .before
+module _ (out : List ℕ) (at k after : ℕ) (room : PutRoom out at (decimal k ++ (after ∷ []))) where
+  one-left : k < 10 → NetLeft out at ((zeroByte + k % 10) ∷ after ∷ []) out at (decimal k ++ (after ∷ []))
+  unfolding digitByte
+  one-left h =
+      let e : k % 10 ≡ k = omega arith in
+      parts-left (rw (decimal-one k h, e)) room
 
-module _ (out : List ℕ) (at k : ℕ) (room : at + length (decimal k) ≤ length out) where
-  one-left : k < 10 → NetLeft out at (digitByte k ∷ []) out at (decimal k)
-  one-left h = parts-left (decimal-one k h) room
-
-  more-left : 10 ≤ k → NetLeft out at (decimal (k / 10) ++ (digitByte (k % 10) ∷ [])) out at (decimal k)
-  more-left h = parts-left (decimal-more k h) room
-
-print-decimal-put-digit-requires : (t : ℕ) → print-decimal-lts.Need-put-digit-requires (
-  put-digit-reads.Asked,
-  put-digit-reads.Learnt,
-  print-decimal-below t,
-  print-decimal.Post,
-) (print-decimal-at t) print-decimal.Post
-print-decimal-put-digit-requires t c κs =
-    let h : c .before .before .before .args .k < 10 = omega arith in (
-      h,
-      omega (
-        arith,
-        (one-left (c .before .before .before .args .out .now) (c .before .before .before .args .at) (c .before .before .before .args .k)
-            (c .before .before .before .pre .1) h) .room,
-      ),
-    )
-
-print-decimal-same-length : (t : ℕ) → print-decimal-lts.Need-same-length (
-  put-digit-reads.Asked,
-  put-digit-reads.Learnt,
-  print-decimal-below t,
-  print-decimal.Post,
-) (print-decimal-at t) print-decimal.Post
-print-decimal-same-length t c = search needs
-
-print-decimal-returns : (t : ℕ) → print-decimal-lts.Need-returns (
-  put-digit-reads.Asked,
-  put-digit-reads.Learnt,
-  print-decimal-below t,
-  print-decimal.Post,
-) (print-decimal-at t) print-decimal.Post
-print-decimal-returns t c =
-    let start = c .before .before .before .before .before .before in
-    last-put (one-left (start .args .out .now) (start .args .at) (start .args .k) (start .pre .1) (c .before .before .before .before .if1 .taken))
-    (c .before .before .put-digit .ensures)
-
-print-decimal-print-decimal-requires : (t : ℕ) → print-decimal-lts.Need-print-decimal-requires (
-  put-digit-reads.Asked,
-  put-digit-reads.Learnt,
-  print-decimal-below t,
-  print-decimal.Post,
-) (print-decimal-at t) print-decimal.Post
-print-decimal-print-decimal-requires t c κs = (
-  omega arith,
-  room-for (decimal (c .before .before .before .args .k / 10)) (digitByte (c .before .before .before .args .k % 10) ∷ [])
-      (more-left (c .before .before .before .args .out .now) (c .before .before .before .args .at) (c .before .before .before .args .k)
-      (c .before .before .before .pre .1) (c .before .if1 .left)),
-)
-
-print-decimal-put-digit-requires-2 : (t : ℕ) → print-decimal-lts.Need-put-digit-requires-2 (
-  put-digit-reads.Asked,
-  put-digit-reads.Learnt,
-  print-decimal-below t,
-  print-decimal.Post,
-) (print-decimal-at t) print-decimal.Post
-print-decimal-put-digit-requires-2 t c κs =
-    let called = c .before .before .before in
-    let start = at-start t called in (
-      omega arith,
-      omega (
-        arith,
-        (put-left (more-left (start .args .out .now) (start .args .at) (start .args .k) (start .pre .1)
-            (called .before .before .if1 .left)) (called .print-decimal .ensures)) .room,
-      ),
-    )
-
-print-decimal-same-length-2 : (t : ℕ) → print-decimal-lts.Need-same-length-2 (
-  put-digit-reads.Asked,
-  put-digit-reads.Learnt,
-  print-decimal-below t,
-  print-decimal.Post,
-) (print-decimal-at t) print-decimal.Post
-print-decimal-same-length-2 t c = search needs
-
-print-decimal-returns-2 : (t : ℕ) → print-decimal-lts.Need-returns-2 (
-  put-digit-reads.Asked,
-  put-digit-reads.Learnt,
-  print-decimal-below t,
-  print-decimal.Post,
-) (print-decimal-at t) print-decimal.Post
-print-decimal-returns-2 t c =
-    let called = c .before .before .before .before .before .before in
-    let start = at-start t called in
-    last-put (put-left (more-left (start .args .out .now) (start .args .at) (start .args .k) (start .pre .1) (called .before .before .if1 .left))
-    (called .print-decimal .ensures)) (c .before .before .put-digit2 .ensures)
+  more-left : 10 ≤ k → NetLeft out at ((decimal (k / 10) ++ ((zeroByte + k % 10) ∷ [])) ++ (after ∷ [])) out at (decimal k ++ (after ∷ []))
+  unfolding digitByte
+  more-left h = parts-left (ap (λ (w : List ℕ). w ++ (after ∷ [])) (decimal-more k h)) room
 
 pub +print-decimal-spec : {M : Type 1} → statement M
-+print-decimal-spec = close μ-print-decimal λ t. print-decimal-lts.spec (
-  put-digit-reads.Asked,
-  put-digit-reads.Learnt,
-  print-decimal-below t,
-  print-decimal.Post,
-)
-    (print-decimal-at t)
-    print-decimal.Post
-    (print-decimal-put-digit-requires t)
-    (print-decimal-same-length t)
-    (print-decimal-returns t)
-    (print-decimal-print-decimal-requires t)
-    (print-decimal-put-digit-requires-2 t)
-    (print-decimal-same-length-2 t)
-    (print-decimal-returns-2 t)
++print-decimal-spec =
+    close μ λ t. spec (put.Asked, put.Learnt, below-measure t, own.Post) (at-measure t) own.Post (λ c. search needs) (λ c. search needs)
+    (λ c κs. let start = c .before .before .before in let a = start .args in
+    room-byte (one-left (a .out .now) (a .at) (a .k) (a .after) (start .pre .1) (c .before .if1 .taken)))
+    (λ c κs. let digit = c .before .before .before in let start = digit .before .before .before .before in let a = start .args in
+    room-byte (put-left (one-left (a .out .now) (a .at) (a .k) (a .after) (start .pre .1) (digit .before .before .if1 .taken)) (digit .put .ensures)))
+    (λ c. search needs)
+    (λ c. let digit = c .before .before .before .before .before .before in let start = digit .before .before .before .before in let a = start .args in
+    last-put (put-left (one-left (a .out .now) (a .at) (a .k) (a .after) (start .pre .1) (digit .before .before .if1 .taken)) (digit .put .ensures))
+    (c .before .before .put2 .ensures))
+    (λ c κs. let start = c .before .before .before in let a = start .args in (
+      omega arith,
+      room-for (decimal (a .k / 10) ++ ((zeroByte + a .k % 10) ∷ [])) (a .after ∷ [])
+          (more-left (a .out .now) (a .at) (a .k) (a .after) (start .pre .1) (c .before .if1 .left)),
+    ))
+    (λ c κs. let front = c .before .before .before in let start = front .before .before .before .before in let a = start .args in
+    room-byte (put-left (more-left (a .out .now) (a .at) (a .k) (a .after) (start .pre .1) (front .before .before .if1 .left)) (front .print-decimal .ensures)))
+    (λ c. search needs)
+    (λ c. let front = c .before .before .before .before .before .before in let start = front .before .before .before .before in let a = start .args in
+    last-put (put-left (more-left (a .out .now) (a .at) (a .k) (a .after) (start .pre .1) (front .before .before .if1 .left)) (front .print-decimal .ensures))
+    (c .before .before .put3 .ensures))

@@ -1,5 +1,0 @@
-pub mod Apart
-pub mod Openings
-pub mod Thin
-pub mod TurnAnswers
-pub mod TurnSteps
