@@ -1,4 +1,6 @@
 // The answers that several calls share.
+#![tactic(auto)]
+
 pub mod answer;
 pub mod layered;
 pub mod named;

@@ -1,4 +1,6 @@
 // Arrival sheets, and when a net's output settles.
+#![tactic(auto)]
+
 pub mod arrival;
 pub mod call;
 pub mod joined;

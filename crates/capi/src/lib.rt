@@ -1,4 +1,6 @@
 // The calls for C and Rust, over numbers and byte slices, one file for each. include/sitgurp.h declares them.
+#![tactic(auto)]
+
 pub mod arrival_times;
 pub mod check;
 pub mod family_count;

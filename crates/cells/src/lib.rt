@@ -1,4 +1,6 @@
 // Checks on the cells of a table: the first cell that is at least a bound, full tables, and bare cells.
+#![tactic(auto)]
+
 pub mod bare;
 pub mod bound;
 pub mod full;

@@ -1,4 +1,6 @@
 // The comparison of two assignments of a group, and the count of a group's classes.
+#![tactic(auto)]
+
 pub mod alike;
 pub mod counting;
 pub mod differences;

@@ -1,4 +1,6 @@
 // Fields, separators and the first three lines of a sheet, strict or loose.
+#![tactic(auto)]
+
 pub mod ends;
 pub mod header;
 pub mod numbers;

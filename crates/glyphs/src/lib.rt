@@ -1,4 +1,6 @@
 // Glyphs for the panel product, above the net library.
+#![tactic(auto)]
+
 pub mod call;
 pub mod frame;
 pub mod limits;

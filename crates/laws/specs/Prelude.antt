@@ -4,7 +4,10 @@
 pub use Rattle.std.specs.Prelude.{ℕ, ◌<◌, ◌≤◌, ◌+◌, ◌-◌, ◌^◌, suc, ◌*◌, zero, ◌%◌, ◌/◌, max, min, ◌≡◌, refl, ◌↔◌, ◌≢◌, ◌⊎◌, true, false, Bool, ◌&&◌, not, cond, ◌||◌, eqb, ltb, leb, length, get_or, take, drop, set, replicate}
 pub use Rattle.std.proofs.Common.{suc-le-suc, zero-le, ◌∙◌, sym, ap, subst, ap₂, subst₂, ⊎_elim, inl, inr, true≢false, map-id, zero-add, add-zero, zero-mul, mul-le-mul_right, pow-suc, suc-mul, le_trans, mul-le-mul, mod-lt, lt_of_lt_of_le, div-lt_iff_lt-mul, div-add-mod', lt_of_not-le, mul_comm, mul-one, add_assoc, le_refl, mul_assoc, add-mul, mul-zero, one-mul, add_comm, suc-add, add-suc, le_of_suc-le-suc, lt_of_le_of_lt, mul-le-mul_left, not-suc-le-zero, le_of_eq, mod-eq_of_lt, eq-or-lt_of_le, le_of_lt, mul-pos, div-one, le_antisymm, mul-suc, mul-add, mul-div_cancel, le-mul_of_pos_right, mul_right_comm, add-lt-add_of_le_of_lt, div-mul-le_self, le-add_right, le_of_mul-le-mul_right, lt_of_mul-lt-mul_right, lt_trans, mul-lt-mul_of_pos_right, zero-lt-suc, add-one, lit<, lit≤, length-set, length-append, length-drop, drop_of_length-le, length-take, take-append-drop, get_or-set_same, get_or-set_other, length-take-le, get_or-take, drop-cons, ext_get_or, take_at, get_or-drop, take-suc-set, take_all, drop_at, drop-drop, get_or-append-add, take-add, drop-set-lt, take-suc, take-take, lt-length-set, set-set, eq-eqb, eqb-true, ne_eqb, lt-ltb, le-ltb, le-leb, leb-true, ltb-true, leb-false, ltb-false, rules, pow_mono, pow_pos, pow-add, shl_lt}
 pub use Rattle.std.proofs.Math.Path.{subst⁻¹, fun_ext, ◌∎, ◌≡⟨◌⟩◌}
-pub use Rattle.std.proofs.Math.Logic.{by_cases, iff_trans, iff_not, iff_symm, ⊎_map}
+pub use Rattle.std.proofs.Math.Logic.{by_cases, ⊎_map}
+pub use Rattle.std.proofs.Math.Logic.Iff.{trans as iff_trans}
+pub use Rattle.std.proofs.Math.Logic.Iff.{not as iff_not}
+pub use Rattle.std.proofs.Math.Logic.Iff.{symm as iff_symm}
 pub use Rattle.std.proofs.Math.Bool.{and-eq-true_iff, and-false, and-true, or-true, or-false, and_comm, and-or_distrib_right, or_assoc}
 pub use Rattle.std.proofs.lemmas.Bool.{false≢true, eqb-false, not-true, not-false, lt-leb}
 pub use mathlib.Core.List.Memᴰ.{head as mem_head}

@@ -1,4 +1,6 @@
 // Makes the net of the table sheet on standard input. Prints what `programs::output::make_output` returns.
+#![tactic(auto)]
+
 use libc::{STDIN_FILENO, STDOUT_FILENO};
 
 fn main() {

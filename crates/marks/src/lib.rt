@@ -1,4 +1,6 @@
 // The marks of groups: of one group, of all groups, and how a caller's buffer stores them.
+#![tactic(auto)]
+
 pub mod all_groups;
 pub mod fast;
 pub mod group_mark;

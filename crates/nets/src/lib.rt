@@ -1,4 +1,6 @@
 // A header and a net by value.
+#![tactic(auto)]
+
 pub mod forms;
 pub mod layers;
 pub mod names;

@@ -1,5 +1,7 @@
 // Representatives of every group's classes, each found from those of the smaller groups. This crate exists only for speed: it lets marking visit few cells.
 // `marks::group_mark` is the plain way to mark one group.
+#![tactic(auto)]
+
 pub mod classifying;
 pub mod counting;
 pub mod extension;

@@ -1,1 +1,2 @@
 // Documents 01 and 02 as definitions, in specs/. This crate has no code.
+#![tactic(auto)]

@@ -1,4 +1,6 @@
 // Settles the net sheet on standard input. Prints what `programs::output::settle_output` returns.
+#![tactic(auto)]
+
 use libc::{STDIN_FILENO, STDOUT_FILENO};
 
 fn main() {

@@ -1,4 +1,6 @@
 // Settling and making.
+#![tactic(auto)]
+
 pub mod calls;
 pub mod chosen;
 pub mod input;

@@ -1,4 +1,6 @@
 // The reader of table sheets.
+#![tactic(auto)]
+
 pub mod digits;
 pub mod fast;
 pub mod full;

@@ -1,4 +1,6 @@
 // Tidies the loose table sheet on standard input. Prints what `programs::output::tidy_output` returns.
+#![tactic(auto)]
+
 use libc::{STDIN_FILENO, STDOUT_FILENO};
 
 fn main() {

@@ -1,4 +1,6 @@
 // The number of trees of a group, and the wiring of each number.
+#![tactic(auto)]
+
 pub mod counts;
 pub mod fast;
 pub mod numbered;

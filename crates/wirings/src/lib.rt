@@ -1,4 +1,6 @@
 // Which inputs are leaves, and the wirings chosen from the marks: the settled one and the shallow one.
+#![tactic(auto)]
+
 pub mod choice;
 pub mod choose;
 pub mod fast;

@@ -36,6 +36,10 @@ module _ (c : ℕ) (some : 0 < c) where
 
   pub sum_exact : (x y : Float) (a b : ℕ) → HasValue x false a c → HasValue y false b c → add binary64 x y ≡ round binary64 false (a + b) c
   unfolding add sum
+  sum_exact lib.Ieee.nan y a b v w = elim v [ ]
+  sum_exact (lib.Ieee.inf s) y a b v w = elim v [ ]
+  sum_exact (fin false m e) lib.Ieee.nan a b v w = elim w [ ]
+  sum_exact (fin false m e) (lib.Ieee.inf s) a b v w = elim w [ ]
   sum_exact (fin true m e) y a b v w = absurd (true≢false v.0)
   sum_exact (fin false m e) (fin true n d) a b v w = absurd (true≢false w.0)
   sum_exact (fin false m e) (fin false n d) a b v w =
@@ -60,6 +64,10 @@ cross x y a b c k C K p q = elim (dec_lt a b) [
 
 pub order_exact : (c : ℕ) → 0 < c → (x y : Float) (a b : ℕ) → HasValue x false a c → HasValue y false b c → lt x y ≡ ltb a b
 unfolding lt
+order_exact c some lib.Ieee.nan y a b v w = elim v [ ]
+order_exact c some (lib.Ieee.inf s) y a b v w = elim v [ ]
+order_exact c some (fin false m e) lib.Ieee.nan a b v w = elim w [ ]
+order_exact c some (fin false m e) (lib.Ieee.inf s) a b v w = elim w [ ]
 order_exact c some (fin true m e) y a b v w = absurd (true≢false v.0)
 order_exact c some (fin false m e) (fin true n d) a b v w = absurd (true≢false w.0)
 order_exact c some (fin false m e) (fin false n d) a b v w =
@@ -76,6 +84,8 @@ pub quarter_injective : (p q : ℕ) → p < exact_below → q < exact_below → 
 quarter_injective p q hp hq e = one_value (quarter p) p q (quarter_exact p hp) (subst (λ (x : Float). HasValue x false q 4) (sym e) (quarter_exact q hq))
   where
     one_value : (x : Float) (a b : ℕ) → HasValue x false a 4 → HasValue x false b 4 → a ≡ b
+    one_value lib.Ieee.nan a b v w = elim v [ ]
+    one_value (lib.Ieee.inf s) a b v w = elim v [ ]
     one_value (fin s m k) a b v w = eq_of_mul-eq-mul_right (down k) (down_pos k) a b (sym v.1 ∙ w.1)
 
 -- ---- a whole number's quarter
@@ -86,6 +96,8 @@ unfolding quarter of_int of_bits mul
 quarter_of n h = times (round binary64 false n 1) (round_whole binary64 false n h)
   where
     times : (x : Float) → HasValue x false n 1 → mul binary64 x (fin false 1 (negsuc 1)) ≡ round binary64 false n 4
+    times lib.Ieee.nan v = elim v [ ]
+    times (lib.Ieee.inf s) v = elim v [ ]
     times (fin true m e) v = absurd (true≢false v.0)
     times (fin false m e) v =
         round_same binary64 false (m * up e * 1) (down e * 4) n 4 (mul-pos (down_pos e) (lit< tt)) (lit< tt)
