@@ -2,11 +2,10 @@
 use native.Mathlib.Omega.{arith}
 use lib.Count.{trailing_le}
 use Rattle.radix.specs.Members.{trailing_first}
-use Rattle.radix.proofs.members.first_of.Statement.{statement}
-use Rattle.radix.proofs.members.first_of.Tie as tie
+use Rattle.radix.proofs.members.first_of.Goals as goal
 
-returns : tie.Need-returns
+pub returns : goal.returns
 returns c = λ n g<. trailing_first 64 n c.args.g c.requires (omega arith) g<
 
-pub first_of_spec : {M : Type 1} → statement M
-first_of_spec = tie.close (tie.spec (λ c. omega (arith, trailing_le 64 c.args.g)) returns)
+pub overflow_cast-result : goal.overflow_cast-result
+overflow_cast-result c = omega (arith, trailing_le 64 c.args.g)

@@ -2,14 +2,7 @@
 -- nothing.
 use Rattle.laws.specs.Prelude.{ℕ, ◌<◌, ◌≤◌, ◌-◌, ◌^◌, suc, ◌*◌, ◌≡◌, ◌∙◌, sym, ap, refl, subst⁻¹, List, pow-suc, pow-zero, pow-le-pow_right, ℕ_discrete}
 use Rattle.laws.specs.Prelude.{arith, length, get_or, set, length-set, get_or-set_same, get_or-set_other}
-use Rattle.radix.proofs.powers.weights.Statement.{statement}
-use Rattle.radix.proofs.powers.weights.Tie as tie
-
-abbrev invariant-loop : tie.invariant-loop
-invariant-loop m n out₀ w₀ i₀ out w i = (i ≤ n) × (length out ≡ length out₀) × (w ≡ m ^ (n - i)) × ((j : ℕ) → i ≤ j → j < n → get_or out j 0 ≡ m ^ (n - 1 - j))
-
-abbrev decreases-loop : tie.decreases-loop
-decreases-loop m n out₀ w₀ i₀ out w i = i
+use Rattle.radix.proofs.powers.weights.Goals as goal
 
 -- the next weight
 one_more : (m n i w : ℕ) → 0 < i → i ≤ n → w ≡ m ^ (n - i) → w * m ≡ m ^ (n - (i - 1))
@@ -31,41 +24,36 @@ turn m n i w out some room e known j low high (yes here) =
     ∙ ap (λ (k : ℕ). m ^ k) (omega arith)
 turn m n i w out some room e known j low high (no other) = get_or-set_other out (i - 1) j w 0 other ∙ known j (omega arith) high
 
-loop_holds : tie.Need-loop-init invariant-loop decreases-loop
-loop_holds c =
+pub loop-i-init : goal.loop-i-init
+loop-i-init c =
     let none : c.args.n - c.args.n ≡ 0 = omega arith in
     (omega arith, refl, sym (ap (λ (k : ℕ). c.args.m ^ k) none ∙ pow-zero c.args.m), λ j low high. absurd (omega arith))
 
-cast_out : tie.Need-overflow-cast-out invariant-loop decreases-loop
-cast_out c =
-    let a = c.before.before.args in
-    let l = c.before.loop in
-    omega (arith, weight_below a.m a.n l.i l.w c.before.before.requires.0 l.invariant.2)
+pub overflow_cast-out : goal.overflow_cast-out
+overflow_cast-out c =
+    let a = c.args in
+    let l = c.loop-i in
+    omega (arith, weight_below a.m a.n l.i l.w c.requires.0 l.invariant.2)
 
-mul_w : tie.Need-overflow-mul-w invariant-loop decreases-loop
-mul_w c =
-    let a = c.before.before.args in
-    let l = c.before.loop in
+pub overflow_mul-w : goal.overflow_mul-w
+overflow_mul-w c =
+    let a = c.args in
+    let l = c.loop-i in
     omega (
       arith,
-      weight_below a.m a.n (l.i - 1) (l.w * a.m) c.before.before.requires.0
+      weight_below a.m a.n (l.i - 1) (l.w * a.m) c.requires.0
           (one_more a.m a.n l.i l.w (omega arith) l.invariant.0 l.invariant.2),
     )
 
-loop_again : tie.Need-loop-preserved invariant-loop decreases-loop
-loop_again c =
-    let a = c.before.before.args in
-    let l = c.before.loop in (
+pub loop-i-preserved : goal.loop-i-preserved
+loop-i-preserved c =
+    let a = c.args in
+    let l = c.loop-i in (
       omega arith,
       length-set l.out (l.i - 1) l.w ∙ l.invariant.1,
       one_more a.m a.n l.i l.w (omega arith) l.invariant.0 l.invariant.2,
       λ j low high. turn a.m a.n l.i l.w l.out (omega arith) (omega arith) l.invariant.2 l.invariant.3 j low high (ℕ_discrete j (l.i - 1)),
     )
 
-returns : tie.Need-returns invariant-loop decreases-loop
-returns c = λ i i<. c.before.loop.invariant.3 i (omega arith) i<
-
-pub weights_spec : {M : Type 1} → statement M
-weights_spec =
-    tie.close (tie.spec invariant-loop decreases-loop loop_holds cast_out (λ c. omega arith) (λ c. omega arith) (λ c. omega arith) mul_w (λ c. omega arith)
-    (λ c. omega arith) loop_again (λ c. c.before.loop.invariant.1) returns)
+pub returns : goal.returns
+returns c = λ i i<. c.loop-i.invariant.3 i (omega arith) i<

@@ -1,0 +1,702 @@
+#!/usr/bin/env python3
+"""Turns the old proofs of a crate, proofs/F/Proof.antt with Tie, into Invariants.antt and Answers.antt.
+
+usage: python3 tools/answers.py CRATE NAMES.json      at the top
+
+NAMES.json is what `rt check --generated FOLDER --old-names` writes in the crate's folder. Old proofs named the facts of a goal along the code, as
+`c.before.before.args.n`; now each step is a field, as `c.args.n`. What it cannot turn it reports.
+"""
+import json
+import os
+import re
+import sys
+
+TOK = re.compile(r"[()\[\]{};,]|[^\s()\[\]{};,]+|\s+")
+PLACE = r"tie\.((?:After|In|Then|Else|At|Joined|Case|Match|Arm)[^\s()]*|Start)"
+TRIVIAL = re.compile(r"^\s*(?:search (?:rules|needs)|omega arith|omega \(arith,?\s*\)|tt|refl)\s*$")
+report = []
+
+
+def norm(s):
+    return s.replace("-", "_")
+
+
+class Fn:
+    def __init__(self, data):
+        self.needs = data["needs"]
+        self.asked = data["asked_at"]
+        self.places = data["places"]
+        self.newname = data["places_by_name"]
+        self.index = {}
+        for i, p in enumerate(self.places):
+            self.index.setdefault(norm(p[0]), i)
+        self.params = data["params"]
+        self.typed = data["typed"]
+        self.loops = data["loops"]
+        self.changed = data["changed"]
+        self.arms = data["arms"]
+        self.asked_names = {norm(a[1]) for a in self.asked}
+        self.data = data
+
+    def parent(self, i):
+        p = self.places[i][1]
+        return None if p is None else self.index[norm(p)]
+
+    def need(self, old):
+        o = norm(old)
+        for cand in (o, re.sub(r"^overflow_", "", o)):
+            for k, (a, b) in enumerate(self.needs):
+                if norm(a) == cand:
+                    return k
+        return None
+
+
+class Decl:
+    def __init__(self):
+        self.comment = ""
+        self.head = ""      # signature with modifiers, or '' for a line of another kind
+        self.name = None
+        self.mods = ""
+        self.sig = ""
+        self.unfolding = ""
+        self.clauses = []   # (patterns text, body text)
+        self.raw = ""
+
+
+HEAD = re.compile(r"^((?:abbrev |unfoldable |pub )*)([^\s:]+) : (.*)$", re.S)
+
+
+def chunks(text):
+    """Top-level chunks: each starts at a line that is not indented."""
+    out, cur = [], []
+    for line in text.split("\n"):
+        if line and not line[0].isspace() and cur:
+            out.append("\n".join(cur))
+            cur = []
+        cur.append(line)
+    if cur:
+        out.append("\n".join(cur))
+    return out
+
+
+def parse(text):
+    uses, decls, comment, top = [], [], [], []
+    cs = chunks(text)
+    k = 0
+    seen = False
+    while k < len(cs):
+        c = cs[k]
+        s = c.strip()
+        if s.startswith("--"):
+            (comment if seen else top).append(c.rstrip())
+            k += 1
+            continue
+        if s == "":
+            k += 1
+            continue
+        seen = True
+        if s.startswith("use ") or s.startswith("pub use"):
+            uses.append(c.rstrip())
+            k += 1
+            continue
+        m = HEAD.match(c)
+        d = Decl()
+        d.comment = "\n".join(comment)
+        comment = []
+        if not m or c.startswith("module "):
+            d.raw = c.rstrip()
+            decls.append(d)
+            k += 1
+            continue
+        d.mods, d.name, d.sig = m[1], m[2], m[3].rstrip()
+        k += 1
+        while k < len(cs):
+            c2 = cs[k]
+            if c2.startswith("unfolding "):
+                d.unfolding = c2.rstrip()
+                k += 1
+                continue
+            if c2.split(" ", 1)[0].strip() == d.name or re.match(re.escape(d.name) + r"[ \n]", c2):
+                d.clauses.append(c2.rstrip()[len(d.name):])
+                k += 1
+                continue
+            if c2.strip() == "":
+                k += 1
+                continue
+            break
+        decls.append(d)
+    return "\n".join(top), uses, decls
+
+
+def split_clause(c):
+    """Patterns and body of a clause: at the first ' =' at depth 0."""
+    depth = 0
+    i = 0
+    while i < len(c):
+        ch = c[i]
+        if ch in "([{":
+            depth += 1
+        elif ch in ")]}":
+            depth -= 1
+        elif ch == "=" and depth == 0 and c[i - 1] in " \n" and (i + 1 >= len(c) or c[i + 1] in " \n"):
+            return c[:i].strip(), c[i + 1:].strip("\n").rstrip() if c[i + 1:i + 2] == "\n" else c[i + 2:].rstrip()
+        i += 1
+    return c.strip(), ""
+
+
+def arrows(sig):
+    """The parts of a type between arrows at depth 0."""
+    parts, depth, cur = [], 0, ""
+    for t in TOK.findall(sig):
+        if t in "([{":
+            depth += 1
+        elif t in ")]}":
+            depth -= 1
+        if t == "→" and depth == 0:
+            parts.append(cur.strip())
+            cur = ""
+        else:
+            cur += t
+    parts.append(cur.strip())
+    return parts
+
+
+def params(sig):
+    """(name or None, type, implicit) of each parameter, and the result."""
+    out = []
+    parts = arrows(sig)
+    for p in parts[:-1]:
+        groups = re.findall(r"[({][^(){}]*(?:\([^()]*\)[^(){}]*)*[)}]", p) if p[:1] in "({" and " : " in p else None
+        if groups and "".join(groups).replace(" ", "") == p.replace(" ", ""):
+            for g in groups:
+                names, ty = g[1:-1].split(" : ", 1)
+                for n in names.split():
+                    out.append((n, ty, g[0] == "{"))
+        else:
+            out.append((None, p, False))
+    return out, parts[-1]
+
+
+class Turn:
+    def __init__(self, fn, path):
+        self.fn, self.path = fn, path
+        self.navs = {}      # name -> (from place, to place)
+        self.macros = {}    # name -> decl, for lemmas over places that no goal is asked at
+        self.lemmas = {}
+        self.rename = {}
+
+    def place_of(self, ty):
+        m = re.match(r"^\(?" + PLACE + r"(?:\s.*)?$", ty.strip())
+        if not m:
+            return None
+        return self.fn.index.get(norm(m[1]))
+
+    # ---- record expressions
+    def atom(self, T, i, env):
+        """A record expression at token i: (next, root, place, fields), or None."""
+        if i >= len(T):
+            return None
+        t = T[i]
+        if t == "(":
+            r = self.expr(T, i + 1, env)
+            if r is None:
+                return None
+            j, root, place, fields = r
+            if fields or j >= len(T) or T[j] != ")":
+                return None
+            j += 1
+            more = []
+            if j < len(T) and T[j].startswith("."):
+                more = T[j][1:].split(".")
+                j += 1
+            return self.climb(j, root, place, more)
+        if t.endswith("."):
+            return None
+        parts = t.split(".")
+        if parts[0] not in env or env[parts[0]][0] != "rec":
+            return None
+        _, root, place = env[parts[0]]
+        return self.climb(i + 1, root, place, parts[1:])
+
+    def climb(self, j, root, place, fields):
+        while fields and fields[0] == "before":
+            place = self.fn.parent(place)
+            fields = fields[1:]
+            if place is None:
+                return None
+        return j, root, place, fields
+
+    def skip(self, T, i):
+        while i < len(T) and T[i].isspace():
+            i += 1
+        return i
+
+    def expr(self, T, i, env):
+        if i < len(T) and T[i] in self.navs:
+            j = self.skip(T, i + 1)
+            r = self.atom(T, j, env)
+            if r is None or r[3]:
+                return None
+            return r[0], r[1], self.navs[T[i]][1], []
+        return self.atom(T, i, env)
+
+    # ---- writing
+    def step_rest(self, place, rest):
+        p = self.fn.places[place]
+        out = []
+        k = 0
+        while k < len(rest):
+            f = rest[k]
+            if f == "taken":
+                f = "true"
+            elif f == "left":
+                f = "false"
+            elif f == "inv" and k == 0:
+                f = "invariant"
+            elif f in ("kept", "last", "auto", "new") and k == 0:
+                f = {"kept": "auto", "last": "new"}.get(f, f)
+                n, j = 0, k + 1
+                while j < len(rest) and rest[j] == "1":
+                    n += 1
+                    j += 1
+                if j < len(rest) and rest[j] == "0" and p[3] in self.fn.params:
+                    ps = self.fn.params[p[3]]
+                    if n < len(ps):
+                        out.append(f)
+                        out.append(ps[n])
+                        k = j + 1
+                        continue
+            out.append(f)
+            k += 1
+        return out
+
+    def write(self, root, place, fields, need):
+        p = self.fn.places[place]
+        if not fields:
+            if need:
+                return f"(goal.at.{need} {root[0]}).{self.fn.newname[place]}"
+            if place == root[1]:
+                return root[0]
+            report.append(f"{self.path}: bare record above {root[0]}: {self.fn.newname[place]}")
+            return f"{root[0]}.{self.fn.newname[place]}"
+        f, rest = fields[0], fields[1:]
+        if norm(f) == norm(p[2][0]):
+            return ".".join([root[0], p[2][1]] + self.step_rest(place, rest))
+        f = {"pre": "requires"}.get(f, f)
+        if f not in ("args", "requires", "ranges", "lifetimes", "well_formed", "auto", "type_inv", "utf8"):
+            report.append(f"{self.path}: field {f} of {p[0]} (step {p[2][0]})")
+        return ".".join([root[0], f] + rest)
+
+    def text(self, text, env, need):
+        T = TOK.findall(text)
+        out = []
+        env = dict(env)
+        i = 0
+        while i < len(T):
+            t = T[i]
+            if t == "let":
+                j = self.skip(T, i + 1)
+                name = T[j]
+                j2 = self.skip(T, j + 1)
+                if j2 < len(T) and T[j2] == "=":
+                    j3 = self.skip(T, j2 + 1)
+                    r = self.expr(T, j3, env)
+                    if r is not None:
+                        e, root, place, fields = r
+                        e2 = self.skip(T, e)
+                        if e2 < len(T) and T[e2] == "in":
+                            if not fields:
+                                env[name] = ("rec", root, place)
+                                i = self.skip(T, e2 + 1)
+                                continue
+                            p = self.fn.places[place]
+                            if len(fields) == 1 and norm(fields[0]) == norm(p[2][0]):
+                                env[name] = ("step", root, place)
+                            else:
+                                env.pop(name, None)
+                    else:
+                        env.pop(name, None)
+                out.append(t)
+                i += 1
+                continue
+            r = self.expr(T, i, env)
+            if r is not None:
+                j, root, place, fields = r
+                out.append(self.write(root, place, fields, need))
+                i = j
+                continue
+            parts = t.split(".")
+            if parts[0] in env and env[parts[0]][0] == "step" and len(parts) > 1 and not t.endswith("."):
+                out.append(".".join([parts[0]] + self.step_rest(env[parts[0]][2], parts[1:])))
+                i += 1
+                continue
+            if t in self.rename:
+                t = self.rename[t]
+            elif t == "needs":
+                t = "rules"
+            elif t == "invariant-loop" or t == "decreases-loop":
+                report.append(f"{self.path}: {t} in a body")
+            out.append(t)
+            i += 1
+        return "".join(out)
+
+
+def wrap(body):
+    return body
+
+
+def main():
+    crate, names = sys.argv[1], json.load(open(sys.argv[2]))
+    root = os.path.join("crates", crate, "proofs")
+    only = sys.argv[3:]
+    for key, data in sorted(names.items()):
+        m = re.match(r"^Rattle-" + re.escape(crate) + r"-proofs\.(.*)\.Lts$", key)
+        if not m:
+            continue
+        path = m[1].replace(".", "/")
+        if only and path not in only:
+            continue
+        folder = os.path.join(root, path)
+        proof = os.path.join(folder, "Proof.antt")
+        if not os.path.exists(proof):
+            continue
+        try:
+            one(crate, path, folder, proof, Fn(data), m[1])
+        except Exception as e:  # noqa: BLE001
+            report.append(f"{path}: NOT TURNED: {type(e).__name__} {e}")
+            if os.environ.get("TRACE"):
+                raise
+    for r in report:
+        print(r)
+
+
+def spec_args(body):
+    """The arguments of `tie.spec` in the last declaration."""
+    i = body.find("tie.spec")
+    if i < 0:
+        return None
+    T = TOK.findall(body[i + len("tie.spec"):])
+    args, k, depth, cur = [], 0, 0, ""
+    for t in T:
+        if depth == 0 and t == ")":
+            break
+        if t in "([{":
+            depth += 1
+        elif t in ")]}":
+            depth -= 1
+        if depth == 0 and t.isspace():
+            if cur:
+                args.append(cur)
+            cur = ""
+            continue
+        cur += t
+    if cur:
+        args.append(cur)
+    return args
+
+
+def one(crate, path, folder, proof, fn, module):
+    text = open(proof, encoding="utf-8").read()
+    top, uses, decls = parse(text)
+    turn = Turn(fn, path)
+    invariants, answers = [], []
+    # navigation
+    rest = []
+    changed = True
+    todo = list(decls)
+    for d in todo:
+        if d.name and "tie." in d.sig and len(arrows(d.sig)) == 2 and d.mods.strip() in ("abbrev", "abbrev pub", "pub abbrev", ""):
+            ps, res = params(d.sig)
+            a, b = turn.place_of(ps[0][1]), turn.place_of(res)
+            if a is not None and b is not None:
+                turn.navs[d.name] = (a, b)
+                continue
+            if re.match(PLACE, res.strip()) and b is None:
+                report.append(f"{path}: unknown place in {d.name}: {d.sig}")
+        rest.append(d)
+    # the spec: which answers stand for which need
+    spec = [d for d in rest if d.name and "tie.spec" in "".join(d.clauses)]
+    inline = {}
+    need_of = {}
+    if spec:
+        s = spec[-1]
+        rest.remove(s)
+        args = spec_args("".join(s.clauses))
+        invs = [a for a in args if re.match(r"^(invariant|decreases)-loop", a)]
+        args = [a for a in args if a not in invs]
+        if len(args) == len(fn.needs):
+            for a, (old, new) in zip(args, fn.needs):
+                if a.startswith("("):
+                    mm = re.match(r"^\(λ\s+(.*?)\.\s+(.*)\)$", a, re.S)
+                    if mm and not TRIVIAL.match(mm[2]):
+                        inline[new] = (mm[1].split(), mm[2])
+                else:
+                    need_of[a] = new
+        else:
+            report.append(f"{path}: {len(args)} answers for {len(fn.needs)} goals")
+            # by name
+            known = {}
+            for d in rest:
+                mm = d.name and re.match(r"^tie\.Need-(\S+)", d.sig)
+                if mm:
+                    k = fn.need(mm[1])
+                    if k is not None:
+                        known[d.name] = k
+            # gaps between anchors of equal length
+            pos = [(i, known[a]) for i, a in enumerate(args) if a in known]
+            pos = [(-1, -1)] + pos + [(len(args), len(fn.needs))]
+            for (i0, k0), (i1, k1) in zip(pos, pos[1:]):
+                for i in range(i0 + 1, i1):
+                    a = args[i]
+                    if i1 - i0 == k1 - k0:
+                        new = fn.needs[k0 + i - i0][1]
+                    else:
+                        new = None
+                    if a.startswith("("):
+                        mm = re.match(r"^\(λ\s+(.*?)\.\s+(.*)\)$", a, re.S)
+                        if mm and not TRIVIAL.match(mm[2]):
+                            if new:
+                                inline[new] = (mm[1].split(), mm[2])
+                            else:
+                                report.append(f"{path}: inline answer not placed: {a[:150]}")
+                    elif new:
+                        need_of[a] = new
+            for a, k in known.items():
+                need_of[a] = fn.needs[k][1]
+    for d in rest:
+        mm = d.name and re.match(r"^tie\.Need-(\S+)", d.sig)
+        if mm and d.name not in need_of:
+            k = fn.need(mm[1])
+            if k is not None:
+                need_of[d.name] = fn.needs[k][1]
+            else:
+                report.append(f"{path}: no goal for {d.name} : {d.sig}")
+    asked = {b: a for (a0, b), (_, a) in zip(fn.needs, fn.asked)}
+    turn.rename = {a: b for a, b in need_of.items() if a != b}
+    lets = set()
+
+    def goal_place(new):
+        return fn.newname.index(asked[new]) if asked[new] in fn.newname else None
+
+    # lemmas over records
+    for d in rest:
+        if not d.name or not d.clauses or re.match(r"^tie\.", d.sig) or "tie." not in d.sig:
+            continue
+        ps, res = params(d.sig)
+        recs = [(k, n, turn.place_of(ty)) for k, (n, ty, imp) in enumerate(ps) if turn.place_of(ty) is not None]
+        if not recs:
+            report.append(f"{path}: lemma {d.name} not understood: {d.sig[:120]}")
+            continue
+        if all(norm(fn.newname[p]) in fn.asked_names for _, _, p in recs):
+            turn.lemmas[d.name] = recs
+        else:
+            turn.macros[d.name] = (d, ps, res, recs)
+
+    def clause_env(pats, ps):
+        """Names of the record parameters of a clause."""
+        explicit = [q for q in ps if not q[2]]
+        toks = [p for p in pats.split() if not p.startswith("{")]
+        env = {}
+        for (n, ty, imp), pat in zip(explicit, toks):
+            pl = turn.place_of(ty)
+            if pl is not None:
+                env[pat] = ("rec", (pat, pl), pl)
+        return env
+
+    used_macros = {}
+
+    def expand(body, need, env0):
+        """A body with the lemmas that it uses over other places written out in front, as typed lets."""
+        pre = ""
+        done = {}
+        guard = 0
+        while True:
+            guard += 1
+            hit = None
+            for name, (d, ps, res, recs) in turn.macros.items():
+                m = re.search(r"(?<![\w.'-])" + re.escape(name) + r"(?![\w'-])", body)
+                if m:
+                    hit = name
+                    break
+            if not hit or guard > 40:
+                return body
+            d, ps, res, recs = turn.macros[hit]
+            # find the argument after the name
+            T = TOK.findall(body[m.end():])
+            k = turn.skip(T, 0)
+            depth, arg = 0, ""
+            while k < len(T):
+                t = T[k]
+                if t in "([{":
+                    depth += 1
+                if t in ")]}":
+                    depth -= 1
+                    if depth < 0:
+                        break
+                if depth == 0 and t.isspace():
+                    break
+                if depth == 0 and t in ",;":
+                    break
+                arg += t
+                k += 1
+            if recs[0][0] != 0 or len(recs) > 1 or len(d.clauses) != 1:
+                raise ValueError(f"macro {hit} has another shape")
+            pats, mb = split_clause(d.clauses[0])
+            names = pats.split()
+            bound = ps[0][0] or names[0]
+            key = (hit, arg)
+            nice = f"{hit}_{len(done)}" if hit in [h for h, _ in done] else f"{hit}"
+            ty = d.sig[d.sig.index("→") + 1:].strip()
+            ty = re.sub(r"(?<![\w.'-])" + re.escape(bound) + r"(?=[\s.)]|$)", lambda _: arg, ty)
+            mb2 = re.sub(r"(?<![\w.'-])" + re.escape(names[0]) + r"(?=[\s.),]|$)", lambda _: arg, mb)
+            lam = f"λ {' '.join(names[1:])}. " if len(names) > 1 else ""
+            body = body[:m.start()] + f"(let it : {ty} = {lam}{mb2.strip()} in it)" + body[m.end() + len("".join(T[:k])):]
+            # as an argument of a parenthesis of its own: `(name arg)` becomes `((let ..))`
+        return body
+
+    out_inv, out_ans, helpers = [], [], []
+    for d in rest:
+        if not d.name:
+            out_ans.append((d.comment, d.raw))
+            if "tie." in d.raw:
+                report.append(f"{path}: a block cites tie: {d.raw[:80]}")
+            continue
+        m = re.match(r"^tie\.(invariant|decreases)-loop(\S*)", d.sig)
+        if m:
+            k = int(re.sub(r"\D", "", m[2]) or "1") - 1
+            labels = [norm(l[0][0]) for l in fn.loops]
+            want = norm("loop" + m[2])
+            k = labels.index(want) if want in labels else k
+            (old, new), vars_ = fn.loops[k]
+            flags = fn.changed[k]
+            pats, body = split_clause(d.clauses[0])
+            names = pats.split()
+            target = [("initial." + v) if f else v for v, f in zip(vars_, flags)] + [v for v, f in zip(vars_, flags) if f]
+            if len(names) != len(target):
+                report.append(f"{path}: invariant has {len(names)} parameters for {len(target)}: {names} {target}")
+            sub = dict(zip(names, target))
+            T = TOK.findall(body)
+            clash = False
+            for q in range(len(T) - 1):
+                if T[q] == "λ" or (T[q] == "(" and ":" in T[q:q + 6]):
+                    for z in T[q + 1:q + 6]:
+                        if z.rstrip(".") in sub and ("λ" == T[q] or ":" in T[q:q + 6][T[q:q + 6].index(z):]):
+                            clash = clash or z.rstrip(".") in sub
+            b = []
+            for t in T:
+                parts = t.split(".")
+                if parts[0] in sub and not t.endswith("."):
+                    b.append(".".join(["l", sub[parts[0]]] + parts[1:]))
+                else:
+                    b.append(t)
+            if clash:
+                report.append(f"{path}: a binder in the invariant may hide a variable: {body[:100]}")
+            kind = m[1] + "-" + new
+            line = f"abbrev pub {kind} : goal.{kind}\n" + (d.unfolding + "\n" if d.unfolding else "") + f"{kind} l = " + "".join(b).strip()
+            if "\n" in body and body.startswith(" "):
+                line = f"abbrev pub {kind} : goal.{kind}\n{kind} l =\n" + "".join(b)
+            out_inv.append((d.comment, line))
+            continue
+        if d.name in need_of:
+            new = need_of[d.name]
+            if new.startswith("shape_of-"):
+                continue
+            pl = goal_place(new)
+            lines = []
+            trivial = True
+            for c in d.clauses:
+                pats, body = split_clause(c)
+                toks = pats.split()
+                var = toks[0]
+                toks = [x for x in toks if x != "κs"]
+                body = expand(body, new, None)
+                env = {var: ("rec", (var, pl), pl)} if pl is not None else {}
+                b = turn.text(body, env, new)
+                if not TRIVIAL.match(b) or d.unfolding:
+                    trivial = False
+                sep = "\n" if body.startswith(" ") else " "
+                lines.append(f"{new} {' '.join(toks)} =" + sep + (b if sep == "\n" else b.strip()))
+            if trivial:
+                continue
+            out_ans.append((d.comment, f"pub {new} : goal.{new}\n" + (d.unfolding + "\n" if d.unfolding else "") + "\n".join(lines)))
+            continue
+        if d.name in turn.macros:
+            continue
+        # a lemma
+        sig = d.sig
+        ps, res = params(sig)
+        env_sig = {}
+        for n, ty, imp in ps:
+            pl = turn.place_of(ty)
+            if n and pl is not None:
+                env_sig[n] = ("rec", (n, pl), pl)
+        if "tie." in sig:
+            sig = turn.text(sig, env_sig, None)
+            sig = re.sub(PLACE + r"(?: invariant-loop\S* decreases-loop\S*)*", lambda q: "goal." + fn.newname[fn.index[norm(q[1])]], sig)
+        lines = []
+        for c in d.clauses:
+            pats, body = split_clause(c)
+            env = clause_env(pats, ps)
+            body = expand(body, None, None)
+            b = turn.text(body, env, None)
+            sep = "\n" if body.startswith(" ") else " "
+            lines.append(f"{d.name}{' ' if pats else ''}{pats} =" + sep + (b if sep == "\n" else b.strip()))
+        out_ans.append((d.comment, f"{d.mods}{d.name} : {sig}\n" + (d.unfolding + "\n" if d.unfolding else "") + "\n".join(lines)))
+    for new, (vars_, body) in inline.items():
+        if new.startswith("shape_of-"):
+            continue
+        pl = goal_place(new)
+        toks = [x for x in vars_ if x != "κs"]
+        body = expand(body, new, None)
+        env = {vars_[0]: ("rec", (vars_[0], pl), pl)} if pl is not None else {}
+        b = turn.text(body, env, new)
+        if TRIVIAL.match(b):
+            continue
+        out_ans.append(("", f"pub {new} : goal.{new}\n{new} {' '.join(toks)} = {b.strip()}"))
+    keep = []
+    for u in uses:
+        if re.search(r"\.(Statement|Tie)(\.|\b)", u) and module in u:
+            continue
+        u = re.sub(r"\{needs\}", "{rules}", u)
+        u = re.sub(r"(?<=[{ ])needs(?=[,}])", "rules", u)
+        keep.append(u)
+    imports = "\n".join(keep)
+    base = f"Rattle.{crate}.proofs.{module}"
+
+    def needed(u, body):
+        m = re.match(r"^(pub )?use (\S+?)\.\{(.*)\}$", u, re.S)
+        if not m:
+            return u
+        names = [n.strip() for n in m[3].split(",") if n.strip()]
+        got = []
+        for n in names:
+            shown = n.split(" as ")[-1]
+            if "◌" in shown:
+                op = [x for x in shown.split("◌") if x]
+                ok = all(x in body for x in op)
+            else:
+                ok = re.search(r"(?<![^\s(){}\[\];,])" + re.escape(shown) + r"(?![^\s(){}\[\];,.])", body) is not None
+            if ok:
+                got.append(n)
+        return f"{m[1] or ''}use {m[2]}.{{{', '.join(got)}}}" if got else None
+
+    def emit(name, items, link):
+        body = "\n\n".join((c + "\n" if c else "") + t for c, t in items)
+        us = [x for x in (needed(u, body) for u in keep) if x]
+        us.append(f"use {base}.{link} as goal")
+        head = top if top else ""
+        open(os.path.join(folder, name), "w", encoding="utf-8").write((head + "\n" if head else "") + "\n".join(us) + "\n\n" + body + "\n")
+
+    os.remove(proof)
+    if out_inv:
+        emit("Invariants.antt", out_inv, "Given")
+    real = [x for x in out_ans]
+    if any("goal." in t for _, t in real) or real:
+        if not any(t.startswith("pub ") and "goal." in t.split("\n")[0] for _, t in real):
+            report.append(f"{path}: only lemmas are left, dropped: {[t.split(chr(10))[0][:60] for _, t in real]}")
+        else:
+            emit("Answers.antt", real, "Goals")
+
+
+if __name__ == "__main__":
+    main()
