@@ -38,6 +38,12 @@ class Fn:
         self.asked_names = {norm(a[1]) for a in self.asked}
         self.data = data
 
+    def canon(self, i):
+        """The place itself, for one of its points before a read."""
+        if i is None:
+            return None
+        return self.index.get(norm(re.sub(r"-unread(-\d+)?$", "", self.places[i][0])), i)
+
     def parent(self, i):
         p = self.places[i][1]
         return None if p is None else self.index[norm(p)]
@@ -182,7 +188,7 @@ class Turn:
         self.fn, self.path = fn, path
         self.navs = {}      # name -> (from place, to place)
         self.macros = {}    # name -> decl, for lemmas over places that no goal is asked at
-        self.lemmas = {}
+        self.members = set()
         self.rename = {}
 
     def place_of(self, ty):
@@ -245,6 +251,11 @@ class Turn:
         p = self.fn.places[place]
         out = []
         k = 0
+        if rest:
+            f0 = {"taken": "true", "left": "false"}.get(rest[0], rest[0])
+            for a, b in p[4]:
+                if norm(a) == norm(f0) or norm(a) == norm(rest[0]):
+                    return [b] + rest[1:]
         while k < len(rest):
             f = rest[k]
             if f == "taken":
@@ -273,11 +284,9 @@ class Turn:
     def write(self, root, place, fields, need):
         p = self.fn.places[place]
         if not fields:
-            if need:
-                return f"(goal.at.{need} {root[0]}).{self.fn.newname[place]}"
             if place == root[1]:
                 return root[0]
-            report.append(f"{self.path}: bare record above {root[0]}: {self.fn.newname[place]}")
+            report.append(f"{self.path}: bare record above {root[0]} in {need}: {self.fn.newname[place]}")
             return f"{root[0]}.{self.fn.newname[place]}"
         f, rest = fields[0], fields[1:]
         if norm(f) == norm(p[2][0]):
@@ -319,6 +328,32 @@ class Turn:
                 out.append(t)
                 i += 1
                 continue
+            if t in self.macros:
+                j = self.skip(T, i + 1)
+                r = self.atom(T, j, env)
+                if r is not None and not r[3] and self.fn.canon(r[2]) == self.fn.canon(self.macros[t]["place"]):
+                    out.append(t)
+                    i = r[0]
+                    continue
+                if t not in self.members:
+                    report.append(f"{self.path}: use of {t} not understood: {''.join(T[i:i + 8])}")
+                out.append(t)
+                i += 1
+                continue
+            if t.split(".")[0] in self.macros and "." in t and not t.endswith("."):
+                out.append(t)
+                i += 1
+                continue
+            if t == "(":
+                # `(macro ATOM).field`
+                j = self.skip(T, i + 1)
+                if j < len(T) and T[j] in self.macros:
+                    k = self.skip(T, j + 1)
+                    r = self.atom(T, k, env)
+                    if r is not None and not r[3] and self.fn.canon(r[2]) == self.fn.canon(self.macros[T[j]]["place"]) and r[0] < len(T) and T[r[0]] == ")":
+                        out.append(T[j])
+                        i = r[0] + 1
+                        continue
             r = self.expr(T, i, env)
             if r is not None:
                 j, root, place, fields = r
@@ -341,8 +376,15 @@ class Turn:
         return "".join(out)
 
 
-def wrap(body):
-    return body
+def with_lets(lets, body):
+    """A body after typed lets; and a test that was turned round says the plain fact."""
+    body = re.sub(r"not-true _ ([^\s(){},;]+)\.true-raw", r"\1.true", body)
+    body = re.sub(r"not-false _ ([^\s(){},;]+)\.false-raw", r"\1.false", body)
+    lets = [re.sub(r"not-true _ ([^\s(){},;]+)\.true-raw", r"\1.true", x) for x in lets]
+    lets = [re.sub(r"not-false _ ([^\s(){},;]+)\.false-raw", r"\1.false", x) for x in lets]
+    if not lets:
+        return body
+    return "    " + "\n    ".join(lets) + "\n" + (body if body.startswith(" ") else "    " + body)
 
 
 def main():
@@ -478,81 +520,83 @@ def one(crate, path, folder, proof, fn, module):
     def goal_place(new):
         return fn.newname.index(asked[new]) if asked[new] in fn.newname else None
 
-    # lemmas over records
+    # lemmas over records become typed lets of the answers that use them
+    def macro(name, unfolding, sig, clauses, param, place, members):
+        if len(clauses) != 1:
+            report.append(f"{path}: lemma {name} has {len(clauses)} clauses")
+        pats, body = split_clause(clauses[0])
+        turn.macros[name] = {"place": place, "param": param, "sig": sig, "names": pats.split(), "body": body, "members": members, "unfolding": unfolding}
+
+    more = []
     for d in rest:
-        if not d.name or not d.clauses or re.match(r"^tie\.", d.sig) or "tie." not in d.sig:
+        if d.name is None:
+            m = re.match(r"^module _ \((\S+) : (tie\.[^()]*)\) where\n(.*)$", d.raw, re.S)
+            if m and turn.place_of(m[2]) is not None:
+                inner = re.sub(r"^  ", "", m[3], flags=re.M)
+                _, _, ds = parse(inner)
+                names = {x.name for x in ds}
+                turn.members |= names
+                for x in ds:
+                    macro(x.name, x.unfolding, x.sig, x.clauses, m[1], turn.place_of(m[2]), names)
+                continue
+            more.append(d)
+            continue
+        if d.name in need_of or not d.clauses or re.match(r"^tie\.(Need|invariant|decreases)", d.sig) or "tie." not in d.sig:
+            more.append(d)
             continue
         ps, res = params(d.sig)
         recs = [(k, n, turn.place_of(ty)) for k, (n, ty, imp) in enumerate(ps) if turn.place_of(ty) is not None]
-        if not recs:
+        if len(recs) != 1 or recs[0][0] != 0:
             report.append(f"{path}: lemma {d.name} not understood: {d.sig[:120]}")
+            more.append(d)
             continue
-        if all(norm(fn.newname[p]) in fn.asked_names for _, _, p in recs):
-            turn.lemmas[d.name] = recs
-        else:
-            turn.macros[d.name] = (d, ps, res, recs)
-
-    def clause_env(pats, ps):
-        """Names of the record parameters of a clause."""
-        explicit = [q for q in ps if not q[2]]
-        toks = [p for p in pats.split() if not p.startswith("{")]
-        env = {}
-        for (n, ty, imp), pat in zip(explicit, toks):
-            pl = turn.place_of(ty)
-            if pl is not None:
-                env[pat] = ("rec", (pat, pl), pl)
-        return env
-
-    used_macros = {}
-
-    def expand(body, need, env0):
-        """A body with the lemmas that it uses over other places written out in front, as typed lets."""
-        pre = ""
-        done = {}
-        guard = 0
-        while True:
-            guard += 1
-            hit = None
-            for name, (d, ps, res, recs) in turn.macros.items():
-                m = re.search(r"(?<![\w.'-])" + re.escape(name) + r"(?![\w'-])", body)
-                if m:
-                    hit = name
+        pats, body = split_clause(d.clauses[0])
+        cut, depth = None, 0
+        for m in re.finditer(r"[(\[{]|[)\]}]|→", d.sig):
+            if m[0] == "→":
+                if depth == 0:
+                    cut = m.end()
                     break
-            if not hit or guard > 40:
-                return body
-            d, ps, res, recs = turn.macros[hit]
-            # find the argument after the name
-            T = TOK.findall(body[m.end():])
-            k = turn.skip(T, 0)
-            depth, arg = 0, ""
-            while k < len(T):
-                t = T[k]
-                if t in "([{":
-                    depth += 1
-                if t in ")]}":
-                    depth -= 1
-                    if depth < 0:
-                        break
-                if depth == 0 and t.isspace():
-                    break
-                if depth == 0 and t in ",;":
-                    break
-                arg += t
-                k += 1
-            if recs[0][0] != 0 or len(recs) > 1 or len(d.clauses) != 1:
-                raise ValueError(f"macro {hit} has another shape")
-            pats, mb = split_clause(d.clauses[0])
-            names = pats.split()
-            bound = ps[0][0] or names[0]
-            key = (hit, arg)
-            nice = f"{hit}_{len(done)}" if hit in [h for h, _ in done] else f"{hit}"
-            ty = d.sig[d.sig.index("→") + 1:].strip()
-            ty = re.sub(r"(?<![\w.'-])" + re.escape(bound) + r"(?=[\s.)]|$)", lambda _: arg, ty)
-            mb2 = re.sub(r"(?<![\w.'-])" + re.escape(names[0]) + r"(?=[\s.),]|$)", lambda _: arg, mb)
-            lam = f"λ {' '.join(names[1:])}. " if len(names) > 1 else ""
-            body = body[:m.start()] + f"(let it : {ty} = {lam}{mb2.strip()} in it)" + body[m.end() + len("".join(T[:k])):]
-            # as an argument of a parenthesis of its own: `(name arg)` becomes `((let ..))`
-        return body
+            elif m[0] in "([{":
+                depth += 1
+            else:
+                depth -= 1
+        macro(d.name, d.unfolding, d.sig[cut:].strip(), d.clauses, recs[0][1], recs[0][2], set())
+        turn.macros[d.name]["first"] = turn.macros[d.name]["names"].pop(0)
+    rest = more
+
+    def words(text):
+        return {x.split(".")[0] for x in TOK.findall(text)}
+
+    def needed_macros(text, got):
+        for w in sorted(words(text) & set(turn.macros)):
+            if w not in got:
+                m = turn.macros[w]
+                needed_macros(m["sig"] + " " + m["body"], got)
+                got.append(w)
+        return got
+
+    def prelude(body, var, pl, need):
+        """The typed lets for the lemmas that a body uses."""
+        lines = []
+        unf = []
+        for w in needed_macros(body, []):
+            m = turn.macros[w]
+            envs = {}
+            if m["param"]:
+                envs[m["param"]] = ("rec", (var, pl), m["place"])
+            envb = dict(envs)
+            if m.get("first"):
+                envb = {m["first"]: ("rec", (var, pl), m["place"])}
+            sig = turn.text(m["sig"], envs, need)
+            b = turn.text(m["body"], envb, need)
+            lam = f"λ {' '.join(m['names'])}. " if m["names"] else ""
+            sep = "\n" if b.startswith(" ") else " "
+            b = "\n".join("    " + x if k and x.strip() else x for k, x in enumerate(b.split("\n"))) if sep == " " else "\n".join("    " + x for x in b.split("\n"))
+            lines.append(f"let {w} : {' '.join(sig.split())} = {lam}{b.strip() if sep == ' ' else chr(10) + b} in")
+            if m["unfolding"]:
+                unf += m["unfolding"].split()[1:]
+        return lines, unf
 
     out_inv, out_ans, helpers = [], [], []
     for d in rest:
@@ -604,23 +648,27 @@ def one(crate, path, folder, proof, fn, module):
             pl = goal_place(new)
             lines = []
             trivial = True
+            extra_unf = []
             for c in d.clauses:
                 pats, body = split_clause(c)
                 toks = pats.split()
                 var = toks[0]
                 toks = [x for x in toks if x != "κs"]
-                body = expand(body, new, None)
                 env = {var: ("rec", (var, pl), pl)} if pl is not None else {}
-                b = turn.text(body, env, new)
+                lets, unf = prelude(body, var, pl, new)
+                extra_unf += unf
+                b = with_lets(lets, turn.text(body, env, new))
+                body = b
                 if not TRIVIAL.match(b) or d.unfolding:
                     trivial = False
                 sep = "\n" if body.startswith(" ") else " "
                 lines.append(f"{new} {' '.join(toks)} =" + sep + (b if sep == "\n" else b.strip()))
             if trivial:
                 continue
-            out_ans.append((d.comment, f"pub {new} : goal.{new}\n" + (d.unfolding + "\n" if d.unfolding else "") + "\n".join(lines)))
-            continue
-        if d.name in turn.macros:
+            unfolding = d.unfolding
+            if extra_unf:
+                unfolding = " ".join([unfolding or "unfolding"] + [u for u in extra_unf if u not in unfolding.split()])
+            out_ans.append((d.comment, f"pub {new} : goal.{new}\n" + (unfolding + "\n" if unfolding else "") + "\n".join(lines)))
             continue
         # a lemma
         sig = d.sig
@@ -637,7 +685,6 @@ def one(crate, path, folder, proof, fn, module):
         for c in d.clauses:
             pats, body = split_clause(c)
             env = clause_env(pats, ps)
-            body = expand(body, None, None)
             b = turn.text(body, env, None)
             sep = "\n" if body.startswith(" ") else " "
             lines.append(f"{d.name}{' ' if pats else ''}{pats} =" + sep + (b if sep == "\n" else b.strip()))
@@ -647,12 +694,14 @@ def one(crate, path, folder, proof, fn, module):
             continue
         pl = goal_place(new)
         toks = [x for x in vars_ if x != "κs"]
-        body = expand(body, new, None)
         env = {vars_[0]: ("rec", (vars_[0], pl), pl)} if pl is not None else {}
-        b = turn.text(body, env, new)
+        lets, unf = prelude(body, vars_[0], pl, new)
+        b = with_lets(lets, turn.text(body, env, new))
         if TRIVIAL.match(b):
             continue
-        out_ans.append(("", f"pub {new} : goal.{new}\n{new} {' '.join(toks)} = {b.strip()}"))
+        sep = "\n" if b.startswith(" ") else " "
+        u = "unfolding " + " ".join(unf) + "\n" if unf else ""
+        out_ans.append(("", f"pub {new} : goal.{new}\n{u}{new} {' '.join(toks)} ={sep}{b if sep == chr(10) else b.strip()}"))
     keep = []
     for u in uses:
         if re.search(r"\.(Statement|Tie)(\.|\b)", u) and module in u:
