@@ -189,6 +189,7 @@ class Turn:
         self.navs = {}      # name -> (from place, to place)
         self.macros = {}    # name -> decl, for lemmas over places that no goal is asked at
         self.members = set()
+        self.inner = {}
         self.rename = {}
 
     def place_of(self, ty):
@@ -241,9 +242,8 @@ class Turn:
         if i < len(T) and T[i] in self.navs:
             j = self.skip(T, i + 1)
             r = self.atom(T, j, env)
-            if r is None or r[3]:
-                return None
-            return r[0], r[1], self.navs[T[i]][1], []
+            if r is not None and not r[3]:
+                return r[0], r[1], self.navs[T[i]][1], []
         return self.atom(T, i, env)
 
     # ---- writing
@@ -281,6 +281,29 @@ class Turn:
             k += 1
         return out
 
+    def find(self, top, place, f):
+        """The place of the step named f: here, else the nearest above, else below on the way to the root."""
+        q = place
+        while q is not None:
+            if norm(self.fn.places[q][2][0]) == norm(f):
+                return q
+            q = self.fn.parent(q)
+        q, best = top, None
+        while q is not None and q != place:
+            if norm(self.fn.places[q][2][0]) == norm(f):
+                best = q
+            q = self.fn.parent(q)
+        return best
+
+    def at_step(self, name, q, rest):
+        arm = self.fn.arms[q] if q < len(self.fn.arms) else None
+        step = self.fn.places[q][2][0]
+        if arm:
+            for new, old, way in arm[2]:
+                if norm(old) == norm(step) and way and rest[:len(way)] == way and not new.endswith("-own"):
+                    return ".".join([name, arm[0], new] + rest[len(way):])
+        return ".".join([name, self.fn.places[q][2][1]] + self.step_rest(q, rest))
+
     def write(self, root, place, fields, need):
         p = self.fn.places[place]
         if not fields:
@@ -289,8 +312,9 @@ class Turn:
             report.append(f"{self.path}: bare record above {root[0]} in {need}: {self.fn.newname[place]}")
             return f"{root[0]}.{self.fn.newname[place]}"
         f, rest = fields[0], fields[1:]
-        if norm(f) == norm(p[2][0]):
-            return ".".join([root[0], p[2][1]] + self.step_rest(place, rest))
+        q = self.find(root[1], place, f)
+        if q is not None:
+            return self.at_step(root[0], q, rest)
         f = {"pre": "requires"}.get(f, f)
         if f not in ("args", "requires", "ranges", "lifetimes", "well_formed", "auto", "type_inv", "utf8"):
             report.append(f"{self.path}: field {f} of {p[0]} (step {p[2][0]})")
@@ -318,9 +342,9 @@ class Turn:
                                 env[name] = ("rec", root, place)
                                 i = self.skip(T, e2 + 1)
                                 continue
-                            p = self.fn.places[place]
-                            if len(fields) == 1 and norm(fields[0]) == norm(p[2][0]):
-                                env[name] = ("step", root, place)
+                            q = self.find(root[1], place, fields[0])
+                            if len(fields) == 1 and q is not None:
+                                env[name] = ("step", root, q)
                             else:
                                 env.pop(name, None)
                     else:
@@ -470,7 +494,7 @@ def one(crate, path, folder, proof, fn, module):
             for a, (old, new) in zip(args, fn.needs):
                 if a.startswith("("):
                     mm = re.match(r"^\(λ\s+(.*?)\.\s+(.*)\)$", a, re.S)
-                    if mm and not TRIVIAL.match(mm[2]):
+                    if mm and (not TRIVIAL.match(mm[2]) or (s.unfolding and not mm[2].startswith("omega"))):
                         inline[new] = (mm[1].split(), mm[2])
                 else:
                     need_of[a] = new
@@ -537,6 +561,11 @@ def one(crate, path, folder, proof, fn, module):
                 names = {x.name for x in ds}
                 turn.members |= names
                 for x in ds:
+                    b = turn.place_of(x.sig)
+                    if b is not None:
+                        turn.navs[x.name] = (turn.place_of(m[2]), b)
+                        turn.inner[x.name] = b
+                        continue
                     macro(x.name, x.unfolding, x.sig, x.clauses, m[1], turn.place_of(m[2]), names)
                 continue
             more.append(d)
@@ -561,7 +590,11 @@ def one(crate, path, folder, proof, fn, module):
                 depth += 1
             else:
                 depth -= 1
-        macro(d.name, d.unfolding, d.sig[cut:].strip(), d.clauses, recs[0][1], recs[0][2], set())
+        first, after = d.sig[:cut - 1].strip(), d.sig[cut:].strip()
+        m = re.match(r"^\([^\s()]+ : tie\.[^()]*\)\s*(\S.*)$", first, re.S)
+        if m:
+            after = m[1] + " → " + after
+        macro(d.name, d.unfolding, after, d.clauses, recs[0][1], recs[0][2], set())
         turn.macros[d.name]["first"] = turn.macros[d.name]["names"].pop(0)
     rest = more
 
@@ -588,6 +621,10 @@ def one(crate, path, folder, proof, fn, module):
             envb = dict(envs)
             if m.get("first"):
                 envb = {m["first"]: ("rec", (var, pl), m["place"])}
+            if m["members"]:
+                for x, q in turn.inner.items():
+                    envs.setdefault(x, ("rec", (var, pl), q))
+                    envb.setdefault(x, ("rec", (var, pl), q))
             sig = turn.text(m["sig"], envs, need)
             b = turn.text(m["body"], envb, need)
             lam = f"λ {' '.join(m['names'])}. " if m["names"] else ""
@@ -697,8 +734,9 @@ def one(crate, path, folder, proof, fn, module):
         env = {vars_[0]: ("rec", (vars_[0], pl), pl)} if pl is not None else {}
         lets, unf = prelude(body, vars_[0], pl, new)
         b = with_lets(lets, turn.text(body, env, new))
-        if TRIVIAL.match(b):
+        if TRIVIAL.match(b) and not spec[-1].unfolding:
             continue
+        unf = spec[-1].unfolding.split()[1:] + unf if not TRIVIAL.match(b) or "omega" not in b else unf
         sep = "\n" if b.startswith(" ") else " "
         u = "unfolding " + " ".join(unf) + "\n" if unf else ""
         out_ans.append(("", f"pub {new} : goal.{new}\n{u}{new} {' '.join(toks)} ={sep}{b if sep == chr(10) else b.strip()}"))

@@ -17,11 +17,11 @@ abbrev pub Backward : List ℕ → ℕ → Type 0
 Backward links count = (j : ℕ) → j < count → get_or links j 0 ≤ j
 
 -- a chain visits only places before its head, so a later link does not change it
-pub chain_kept : (links : List ℕ) (count head v j : ℕ) → Backward links count → head ≤ count → InChain links j head → InChain (set links count v) j head
-chain_kept links count head v j back low (here _ e) = here head e
-chain_kept links count head v j back low (later _ i e rest) =
+pub chain_kept : (links : List ℕ) (count v j head : ℕ) → Backward links count → head ≤ count → InChain links j head → InChain (set links count v) j head
+chain_kept links count v j head back low (here _ e) = here head e
+chain_kept links count v j head back low (later _ i e rest) =
     let same : get_or (set links count v) i 0 ≡ get_or links i 0 = get_or-set_other links count i v 0 (omega arith) in
-    later head i e (subst⁻¹ (InChain (set links count v) j) same (chain_kept links count (get_or links i 0) v j back (omega (arith, back i (omega arith))) rest))
+    later head i e (subst⁻¹ (InChain (set links count v) j) same (chain_kept links count v j (get_or links i 0) back (omega (arith, back i (omega arith))) rest))
 
 module _ (m : ℕ) (f : ℕ → ℕ) (ys : List ℕ) (width : ℕ) where
   abbrev key_at : List ℕ → ℕ → ℕ
@@ -61,7 +61,7 @@ module _ (m : ℕ) (f : ℕ → ℕ) (ys : List ℕ) (width : ℕ) where
           -- an earlier one, in a chain that may have a new head
           old : (j : ℕ) → j < count → (b : ℕ) → InChain links j (get_or heads b 0) → InChain links' j (get_or heads' b 0)
           old j h b chain =
-              let kept = chain_kept links count (get_or heads b 0) head j chains.backward (chains.low b) chain in
+              let kept = chain_kept links count head j (get_or heads b 0) chains.backward (chains.low b) chain in
               by_set (InChain links' j) heads key (count + 1) b room_heads
               (λ e. later _ count (omega arith) (subst⁻¹ (InChain links' j) (get_or-set_same links count head 0 room_links)
               (subst (λ (k : ℕ). InChain links' j (get_or heads k 0)) e kept)))
