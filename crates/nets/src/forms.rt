@@ -18,7 +18,7 @@ pub struct Header {
 
 // A net's gates. References are numbered as in the definitions: input i is i, from 0, and gate k, from 1, is
 // inputs + k - 1. The digits of the gate with `k` gates before it begin at k * levels * levels.
-#[derive(Drop)]
+#[derive(Clone, Copy)]
 pub struct Net {
     pub levels: usize,
     pub inputs: usize,

@@ -9,7 +9,7 @@ use Rattle.radix.specs.Weights.{weight_fits}
 use Rattle.nets.specs.declared.forms.Net.{Net}
 use Rattle.nets.specs.References.{GateStep, gate_step}
 use Rattle.nets.specs.Room.{most_wires}
-use Rattle.nets.specs.Sound.{Sound, sound_size, net_levels_pos, gates_pos, wires_room}
+use Rattle.nets.specs.Sound.{Sound, sound_size, net_levels_pos, wires_room}
 use Rattle.evaluation.specs.declared.lists.order.Span.{Span}
 use Rattle.evaluation.specs.declared.lists.order.Order.{Order}
 use Rattle.evaluation.specs.Lists.Runs.{Run}

@@ -4,7 +4,7 @@ ghost use Rattle.evaluation.specs.Lists.Wires.{list_room};
 ghost use Rattle.evaluation.specs.Lists.Entries.{Ordered, joined_span};
 
 // Where a wire's list begins, how many entries it has, and the wire's group.
-#[derive(Drop)]
+#[derive(Clone, Copy)]
 pub struct Span {
     pub start: usize,
     pub count: usize,
@@ -13,7 +13,7 @@ pub struct Span {
 
 // The lists of the outer loop and of the inner loop. The gate's digits for one value and the next are `wide` apart for the outer list, and `step` apart
 // for the inner one.
-#[derive(Drop)]
+#[derive(Clone, Copy)]
 pub struct Order {
     pub wide: usize,
     pub step: usize,
