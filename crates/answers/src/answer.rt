@@ -1,5 +1,5 @@
 // What a call returns: a value, or a refusal's number and place.
-#[derive(Drop)]
+#[derive(Clone, Copy)]
 pub enum Answer {
     Accepted(usize),
     Refused { number: usize, place: usize },

@@ -1,5 +1,5 @@
 // Which of the two sheets a refusal names.
-#[derive(Drop)]
+#[derive(Clone, Copy)]
 pub enum Named {
     Net,
     Table,

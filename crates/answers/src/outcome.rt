@@ -1,5 +1,5 @@
 // Whether an input is accepted, or its refusal's number and place.
-#[derive(Drop)]
+#[derive(Clone, Copy)]
 pub enum Outcome {
     Accepted,
     Refused { number: usize, place: usize },

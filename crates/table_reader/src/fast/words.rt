@@ -60,7 +60,7 @@ pub fn middle_of(front: usize) -> usize
 }
 
 // The expected bytes of the first four levels, of four in the middle and of the last four.
-#[derive(Drop)]
+#[derive(Clone, Copy)]
 pub struct Words {
     pub first: usize,
     pub middle: usize,
