@@ -1,5 +1,5 @@
--- The examples of docs/REFUSALS.md as one theorem, `refusals_hold`: every refusal, 1 to 27, by calls that give it, with its number, its
--- place, and what each buffer lent to the call holds afterwards. They compute, so even a reader who trusts nothing can watch each number
+-- The examples of docs/REFUSALS.md as one theorem, `refusals_hold` (in proofs/Cases/Refusals): every refusal, 1 to 27, by calls that give it,
+-- with its number, its place, and what each buffer lent to the call holds afterwards. They compute, so even a reader who trusts nothing can watch each number
 -- come out. The document's examples are exactly these (rust/sitgurp/tests/refusals.rs).
 -- Assumes nothing.
 use Rattle.std.specs.Prelude.{ℕ, ◌≡◌, true, false, List, [], ◌∷◌, replicate, eqb, ℤ}

@@ -1,5 +1,6 @@
 -- Laws of the settled net's choices, from the definitions alone: A is "of lowest number", and a group's classes are "numbered from
 -- 0 in the order in which they first appear". They are proved next to the definitions, so a definition that chooses otherwise is refused.
+-- (Those on the classes are in proofs/, under the same file name.)
 -- Assumes nothing.
 use Rattle.std.specs.Prelude.{ℕ, zero, suc, ◌+◌, ◌-◌, ◌≤◌, ◌<◌, ◌≡◌, ◌⊎◌, Bool, ◌&&◌, length, get_or}
 use Rattle.std.proofs.Math.Path.{refl}

@@ -10,14 +10,10 @@ use Rattle.rules.specs.Sheets.Sheets.{Gate, levels_at}
 use Rattle.laws.specs.Lists.WithEach.{with_each_append, with_each_length, with_each_earlier, with_each_last}
 use Rattle.trees.specs.Trees.TreeLists.{Valued, below_length, gates_of, levels_valued, lines_length, own_line_of, ref_to, reference_back, tree_gates}
 
--- ---- a number in a list
-
 module _ (n : ℕ) where
   -- the lines below the gate that joins the two
   abbrev below : ℕ → Tree → Tree → List Gate
   below before a b = tree_gates n before a ++ tree_gates n (before + gates_of a) b
-
-  -- ---- which are used
 
   module _ (m : ℕ) where
     -- ---- the value
