@@ -128,17 +128,17 @@ pub data Example : Type 0 where
   group : (m n : ℕ) (cells : String) (g number place : ℕ) → Example
   marking : (m n : ℕ) (cells : String) (marks number place : ℕ) → Example
   check : (net_sheet_lem table_sheet_lem : String) (cells number place : ℕ) → Example
-  settle : (sheet : String) (cells marks output number place : ℕ) (cells_then : String) (Marks-then : List ℕ) → Example
-  make : (sheet : String) (cells marks output number place : ℕ) (cells_then : String) (Marks-then : List ℕ) → Example
+  settle : (sheet : String) (cells marks output number place : ℕ) (cells_then : String) (marks_then : List ℕ) → Example
+  make : (sheet : String) (cells marks output number place : ℕ) (cells_then : String) (marks_then : List ℕ) → Example
   write : (sheet : String) (output number place : ℕ) → Example
-  count : (sheet : String) (cells marks number place : ℕ) (cells_then : String) (Marks-then : List ℕ) → Example
-  tree : (sheet : String) (order cells marks output number place : ℕ) (cells_then : String) (Marks-then : List ℕ) → Example
+  count : (sheet : String) (cells marks number place : ℕ) (cells_then : String) (marks_then : List ℕ) → Example
+  tree : (sheet : String) (order cells marks output number place : ℕ) (cells_then : String) (marks_then : List ℕ) → Example
   arrival : (sheet : String) (number place : ℕ) → Example
   loose : (sheet : String) (number place : ℕ) → Example
   tidy : (sheet : String) (cells output number place : ℕ) (cells_then : String) → Example
   further : (sheet : String) (steps number place : ℕ) → Example
   ask : (sheet : String) (steps g number place : ℕ) → Example
-  finish : (sheet : String) (steps cells marks output number place : ℕ) (cells_then : String) (Marks-then : List ℕ) → Example
+  finish : (sheet : String) (steps cells marks output number place : ℕ) (cells_then : String) (marks_then : List ℕ) → Example
   keep : (net_sheet_lem table_sheet_lem : String) (cells output number place : ℕ) (cells_then : String) → Example
   glyph : (sheet picture offsets : String) (width height output number place : ℕ) → Example
 
@@ -157,35 +157,35 @@ Comes (check net_sheet_lem table_sheet_lem cells number place) =
     check_call (paper net_sheet_lem) (paper table_sheet_lem) (nines cells)
     ≡ record { answer = turned_down neither number place; cells = nines cells }
 -- settling and making: cells and marks as stated, the output unchanged
-Comes (settle sheet cells marks output number place cells_then Marks-then) =
+Comes (settle sheet cells marks output number place cells_then marks_then) =
     settle_call (paper sheet) (nines cells) (nines marks) (nines output)
     ≡ record {
       answer = refused number place;
       cells = digits (text cells_then);
-      marks = Marks-then;
+      marks = marks_then;
       output = nines output;
     }
-Comes (make sheet cells marks output number place cells_then Marks-then) =
+Comes (make sheet cells marks output number place cells_then marks_then) =
     make_call (paper sheet) (nines cells) (nines marks) (nines output)
     ≡ record {
       answer = refused number place;
       cells = digits (text cells_then);
-      marks = Marks-then;
+      marks = marks_then;
       output = nines output;
     }
 -- table writing
 Comes (write sheet output number place) =
     write_table_call (paper sheet) (nines output) ≡ record { answer = refused number place; output = nines output }
 -- the count of the trees, which has no output; the tree of an order number
-Comes (count sheet cells marks number place cells_then Marks-then) =
+Comes (count sheet cells marks number place cells_then marks_then) =
     family_count_call (paper sheet) (nines cells) (nines marks)
-    ≡ record { answer = refused number place; cells = digits (text cells_then); marks = Marks-then }
-Comes (tree sheet order cells marks output number place cells_then Marks-then) =
+    ≡ record { answer = refused number place; cells = digits (text cells_then); marks = marks_then }
+Comes (tree sheet order cells marks output number place cells_then marks_then) =
     family_tree_call (paper sheet) order (nines cells) (nines marks) (nines output)
     ≡ record {
       answer = refused number place;
       cells = digits (text cells_then);
-      marks = Marks-then;
+      marks = marks_then;
       output = nines output;
     }
 -- an arrival sheet for the inputs a and b, refused by the one call that takes one
@@ -200,14 +200,14 @@ Comes (further sheet steps number place) =
     step_job (job_stepped sheet steps) ≡ record { job = job_stepped sheet steps; answer = refused number place }
 Comes (ask sheet steps g number place) =
     ask_job (job_stepped sheet steps) g ≡ record { job = job_stepped sheet steps; answer = refused number place }
-Comes (finish sheet steps cells marks output number place cells_then Marks-then) =
+Comes (finish sheet steps cells marks output number place cells_then marks_then) =
     finish_job (job_stepped sheet steps) (nines cells) (nines marks) (nines output)
     ≡ record {
       job = job_stepped sheet steps;
       made = record {
         answer = refused number place;
         cells = digits (text cells_then);
-        marks = Marks-then;
+        marks = marks_then;
         output = nines output;
       };
     }
