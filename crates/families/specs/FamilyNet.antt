@@ -13,7 +13,8 @@ use Rattle.trees.specs.Leaves.LeafGroup.{leaves_below}
 use Rattle.trees.specs.Filling.Fillings.{Fillable}
 use Rattle.trees.specs.Families.Families.{wired}
 use Rattle.trees.specs.Families.FamilyCounts.{group_trees}
-use Rattle.trees.specs.Families.FamilyWirings.{OfFamily, wiring_numbered, number_gives}
+use Rattle.trees.specs.Families.FamilyWirings.{OfFamily, wiring_numbered}
+use Rattle.trees.proofs.Families.FamilyWirings.{number_gives}
 use Rattle.nets.specs.declared.forms.Net.{Net}
 use Rattle.wirings.specs.declared.forms.Wiring.{Wiring}
 use Rattle.wirings.specs.Links.{links_in}

@@ -25,9 +25,9 @@ use Rattle.trees.specs.Groups.Members.{member_inside, size_le}
 use Rattle.trees.specs.Groups.MarkRule.{marked}
 use Rattle.trees.specs.Trees.MarkTwo.{Split, Splits, parted, a_below, b_below, a_inside, b_inside, settled_splits, wiring_of_lem, each_gate, two_says}
 use Rattle.trees.specs.Filling.Fillings.{Fillable, wiring_fillable}
-use Rattle.trees.specs.Trees.Existence.{filled_computes}
+use Rattle.trees.proofs.Trees.Existence.{filled_computes}
 use Rattle.trees.specs.Leaves.LeafGroup.{leaves_below, leaves_hold, leaves_several}
-use Rattle.trees.specs.Leaves.CutWirings.{leaves_marked}
+use Rattle.trees.proofs.Leaves.CutWirings.{leaves_marked}
 use Rattle.trees.specs.Shallow.Shallow.{shallow_part, shallow_splits}
 use Rattle.wirings.specs.declared.choice.Choice.{Choice}
 use Rattle.wirings.specs.declared.choice.Choice.TheVariants.{Settled, Shallow}

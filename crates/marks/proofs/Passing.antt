@@ -16,7 +16,8 @@ use Rattle.trees.specs.Groups.TakenOff.{alone_inside, off_inside}
 use Rattle.trees.specs.Groups.Told.{told_many}
 use Rattle.trees.specs.Leaves.CutWirings.{Idle}
 use Rattle.trees.specs.Leaves.Mattering.{matters_classes}
-use Rattle.trees.specs.Leaves.IdleMarks.{one_class_idle, idle_mark}
+use Rattle.trees.specs.Leaves.IdleMarks.{one_class_idle}
+use Rattle.trees.proofs.Leaves.IdleMarks.{idle_mark}
 use Rattle.radix.specs.Parts.{member_and, without_first, first_run}
 use Rattle.radix.specs.Widths.{most_members, groups_end}
 use Rattle.representatives.specs.Known.{Known}

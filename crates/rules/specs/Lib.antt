@@ -3,6 +3,7 @@
 -- `Lists`, `Text` and `Limits` are shared. `Sheets` says what a sheet is, `Groups` what classes and marks are, `Nets` what a net and its value are
 -- and which nets are chosen, `Calls` what each call answers and leaves in every buffer. `Cases` computes examples: the documents' own, one list for
 -- each request, every refusal, and what is judged first. `Evaluation` lets all of it compute. Assumes nothing.
+-- Two files have theorems in proofs/ too, under the same file names: those that rest on a definition which a must-fail edit changes.
 pub mod Calls
 pub mod Cases
 pub mod Evaluation

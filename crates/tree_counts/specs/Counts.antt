@@ -10,7 +10,7 @@ use Rattle.rules.specs.Nets.SettledLaws.{MayBeA}
 use Rattle.rules.specs.Nets.Family.{split_count}
 use Rattle.trees.specs.Groups.Members.{rest_apart, size_join, size_pos}
 use Rattle.trees.specs.Families.FamilyCounts.{group_trees, split_counted, is_split, no_parts_count, split_most}
-use Rattle.trees.specs.Families.FamilyBounds.{group_trees_fit}
+use Rattle.trees.proofs.Families.FamilyBounds.{group_trees_fit}
 use Rattle.trees.specs.Families.Families.{split_sizes}
 use Rattle.marks.specs.FirstParts.{both_two}
 

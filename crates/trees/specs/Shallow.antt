@@ -3,5 +3,3 @@ pub mod Depths
 pub mod FewestLayers
 pub mod Layers
 pub mod Shallow
-pub mod ShallowNet
-pub mod ShallowTables

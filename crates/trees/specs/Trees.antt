@@ -4,7 +4,6 @@ pub mod Forest
 pub mod GateLists
 pub mod Homes
 pub mod JoinedLists
-pub mod LinesTree
 pub mod MarkTwo
 pub mod NetTables
 pub mod NetTree

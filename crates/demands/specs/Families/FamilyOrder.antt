@@ -14,7 +14,8 @@ use Rattle.laws.specs.Lists.Totals.{those_cons, numbered_here, numbered_later}
 use Rattle.trees.specs.Trees.MarkTwo.{is_a}
 use Rattle.trees.specs.Groups.Members.{size_pos}
 use Rattle.trees.specs.Families.FamilyCounts.{group_trees, split_counted, count_single, count_several, counted_two, counted_some}
-use Rattle.trees.specs.Families.Families.{wired, wired_several, split_a_below, split_b_below, split_sizes, SplitAt, number_split, wiring_numbered_lem}
+use Rattle.trees.specs.Families.Families.{wired, wired_several, split_a_below, split_b_below, split_sizes, SplitAt, number_split}
+use Rattle.trees.proofs.Families.Families.{wiring_numbered_lem}
 
 -- ---- the order
 

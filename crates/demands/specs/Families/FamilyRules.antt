@@ -20,9 +20,10 @@ use Rattle.trees.specs.Groups.Members.{size_single, size_le}
 use Rattle.trees.specs.Leaves.LeafGroup.{leaves_below, leaves_several}
 use Rattle.trees.specs.Trees.NetTables.{levels_pos, inputs_several}
 use Rattle.trees.specs.Trees.GateLists.{fill_wiring}
-use Rattle.trees.specs.Trees.LinesTree.{lines_tree, filled_lines}
+use Rattle.trees.proofs.Trees.LinesTree.{lines_tree, filled_lines}
 use Rattle.trees.specs.Families.NormalWirings.{Normal}
-use Rattle.trees.specs.Families.FamilyWirings.{wiring_numbered, OfFamily, number_gives}
+use Rattle.trees.specs.Families.FamilyWirings.{wiring_numbered, OfFamily}
+use Rattle.trees.proofs.Families.FamilyWirings.{number_gives}
 use Rattle.demands.specs.Settling.Settles.{sheet_of}
 use Rattle.demands.specs.Settling.Makes.{leaves_of_table}
 use Rattle.demands.specs.Families.FamilyTables.{family_on_leaves}

@@ -20,12 +20,13 @@ use Rattle.trees.specs.Groups.Members.{size_le}
 use Rattle.trees.specs.Trees.Uniqueness.{table_is}
 use Rattle.trees.specs.Trees.UsedOnce.{same_inputs}
 use Rattle.trees.specs.Leaves.LeafGroup.{leaves_below}
-use Rattle.trees.specs.Leaves.CutWirings.{leaves_marked}
+use Rattle.trees.proofs.Leaves.CutWirings.{leaves_marked}
 use Rattle.trees.specs.Trees.EquallyLong.{equally_long}
 use Rattle.trees.specs.Families.FamilyCounts.{counted_two}
-use Rattle.trees.specs.Families.FamilyWirings.{two_counted}
-use Rattle.trees.specs.Families.FamilyBounds.{trees_on, count_bound, group_trees_fit}
-use Rattle.trees.specs.Families.FamilyNets.{family_computes, family_leaves, family_differ, every_wiring, only_leaves, family_settled, no_family}
+use Rattle.trees.proofs.Families.FamilyWirings.{two_counted}
+use Rattle.trees.specs.Families.FamilyBounds.{trees_on}
+use Rattle.trees.proofs.Families.FamilyBounds.{count_bound, group_trees_fit}
+use Rattle.trees.proofs.Families.FamilyNets.{family_computes, family_leaves, family_differ, every_wiring, only_leaves, family_settled, no_family}
 use Rattle.demands.specs.Settling.Makes.{leaves_of_table, HasTree}
 use Rattle.demands.specs.Sheets.FullSheets.{FullTableRules, full_facts}
 

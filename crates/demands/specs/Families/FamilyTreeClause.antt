@@ -18,10 +18,11 @@ use Rattle.trees.specs.Trees.Forest.{tree_at, with_trees, input_trees}
 use Rattle.trees.specs.Trees.NetTree.{net_tree, net_group_lem}
 use Rattle.trees.specs.Trees.NetTables.{levels_pos}
 use Rattle.trees.specs.Leaves.LeafGroup.{leaves_below}
-use Rattle.trees.specs.Trees.TreeLists.{tree_gates, lines_use, tree_net, tree_net_value}
-use Rattle.trees.specs.Trees.LinesTree.{lines_tree}
+use Rattle.trees.specs.Trees.TreeLists.{tree_gates, lines_use, tree_net}
+use Rattle.trees.proofs.Trees.TreeLists.{tree_net_value}
+use Rattle.trees.proofs.Trees.LinesTree.{lines_tree}
 use Rattle.trees.specs.Families.NormalWirings.{turned_group}
-use Rattle.trees.specs.Filling.GateGroups.{same_wiring}
+use Rattle.trees.proofs.Filling.GateGroups.{same_wiring}
 use Rattle.demands.specs.Settling.Settles.{sheet_of}
 use Rattle.demands.specs.Settling.Makes.{leaves_of_table}
 use Rattle.demands.specs.Settling.TreeClause.{TreeFor, TreeAgrees, agrees_all}

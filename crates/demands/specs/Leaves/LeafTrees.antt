@@ -22,9 +22,10 @@ use Rattle.trees.specs.Groups.Members.{whole_below, member_whole, member_ext, si
 use Rattle.trees.specs.Trees.Wirings.{group_below}
 use Rattle.trees.specs.Trees.MarkTwo.{settled_wiring_of}
 use Rattle.trees.specs.Leaves.LeafGroup.{leaves_below, leaves_hold, leaves_several}
-use Rattle.trees.specs.Leaves.CutWirings.{holding_marked}
-use Rattle.trees.specs.Trees.Existence.{filled_computes, filled_leaves}
-use Rattle.trees.specs.Trees.TreeExistence.{tree_is_net, net_is_gate_tree}
+use Rattle.trees.proofs.Leaves.CutWirings.{holding_marked}
+use Rattle.trees.proofs.Trees.Existence.{filled_computes, filled_leaves}
+use Rattle.trees.specs.Trees.TreeExistence.{net_is_gate_tree}
+use Rattle.trees.proofs.Trees.TreeExistence.{tree_is_net}
 use Rattle.demands.specs.Sheets.FullSheets.{FullTableRules, full_facts, full_accepted}
 use Rattle.demands.specs.Settling.Makes.{table_letters, leaves_of_table, HasTree, two_tree, net_with, gates_sheet, sheet_gates, make_refuses}
 use Rattle.demands.specs.Settling.TreeClause.{TreeFor, TreeAgrees, agrees_all}

@@ -25,10 +25,11 @@ use Rattle.readback.specs.Sheets.ReadBack.{net_accepted, net_read_back}
 use Rattle.trees.specs.Trees.NetTree.{net_group_lem, net_uses}
 use Rattle.trees.specs.Trees.UsedOnce.{net_size}
 use Rattle.trees.specs.Leaves.LeafGroup.{leaves_below, leaves_matter}
-use Rattle.trees.specs.Trees.Existence.{settled_leaves, net_holds}
-use Rattle.trees.specs.Leaves.FewestGates.{net_gates_least, tree_gates_least}
-use Rattle.trees.specs.Shallow.ShallowNet.{shallow_leaves}
-use Rattle.trees.specs.Shallow.ShallowTables.{shallow_kept}
+use Rattle.trees.specs.Trees.Existence.{net_holds}
+use Rattle.trees.proofs.Trees.Existence.{settled_leaves}
+use Rattle.trees.proofs.Leaves.FewestGates.{net_gates_least, tree_gates_least}
+use Rattle.trees.proofs.Shallow.ShallowNet.{shallow_leaves}
+use Rattle.trees.proofs.Shallow.ShallowTables.{shallow_kept}
 use Rattle.trees.specs.Trees.Uniqueness.{table_at}
 use Rattle.trees.specs.Trees.NetTables.{levels_pos}
 use Rattle.demands.specs.Settling.Settles.{sheet_in, sheet_of}

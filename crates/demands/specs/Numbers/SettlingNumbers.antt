@@ -12,7 +12,7 @@ use Rattle.laws.specs.Lists.Distinct.{In, wider}
 use Rattle.laws.specs.Calls.Settling.{WholeTwo, marked_16, marked_tree}
 use Rattle.readback.specs.Readers.Numbers.{net_numbers, net_refusal}
 use Rattle.readback.specs.Sheets.ReadBack.{net_accepted}
-use Rattle.trees.specs.Trees.NetTables.{net_whole_two}
+use Rattle.trees.proofs.Trees.NetTables.{net_whole_two}
 use Rattle.demands.specs.Sheets.FullSheets.{full_numbers, full_refusal}
 use Rattle.demands.specs.Numbers.Numbers.{Gives, accepts, by_answer, not_given_lem, refuses}
 use Rattle.laws.specs.Lists.Tests.{by_test}

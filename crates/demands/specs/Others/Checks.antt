@@ -5,7 +5,6 @@ use Rattle.laws.specs.Prelude.{ℕ, ◌<◌, ◌≤◌, ◌^◌, ◌≡◌, ◌�
 use Rattle.laws.specs.Prelude.{get_or, by_cases}
 use Rattle.rules.specs.Calls.Answers.{Answer, accepted, refused, Named, net_named, table_named, neither, ink_in, written}
 use Rattle.rules.specs.Calls.Checking.{Verdict, agree, differ, turned_down, Checked, same_header, compared, checked_into, check_call}
-use Rattle.rules.specs.Lists.{same}
 use Rattle.rules.specs.Nets.Value.{value}
 use Rattle.rules.specs.Sheets.Printed.{printed_table}
 use Rattle.rules.specs.Sheets.Reading.{read_net, read_table, table_of_net}

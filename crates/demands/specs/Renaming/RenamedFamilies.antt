@@ -12,7 +12,7 @@ use Rattle.laws.specs.Calls.Settling.{marks_of_table, into_marked}
 use Rattle.laws.specs.Calls.FamilyCalls.{counted_marked, family_count_accepted, count_17, count_tree, family_tree_accepted}
 use Rattle.trees.specs.Trees.NetTables.{inputs_several}
 use Rattle.trees.specs.Renaming.RenamedWirings.{count_renamed}
-use Rattle.trees.specs.Renaming.RenamedNets.{family_renamed}
+use Rattle.trees.proofs.Renaming.RenamedNets.{family_renamed}
 use Rattle.demands.specs.Sheets.FullSheets.{FullTableRules}
 use Rattle.demands.specs.Settling.Makes.{two_tree}
 use Rattle.demands.specs.Families.FamilyTables.{some_two, family_as_long}

@@ -18,8 +18,8 @@ use Rattle.laws.specs.Nets.StoredMarks.{stored_length, four_groups}
 use Rattle.trees.specs.Groups.MarkRule.{marks_length_lem}
 use Rattle.trees.specs.Trees.NetTables.{inputs_several}
 use Rattle.trees.specs.Renaming.RenamedWirings.{shallow_layers_renamed}
-use Rattle.trees.specs.Renaming.RenamedNets.{settled_renamed, shallow_renamed}
-use Rattle.trees.specs.Shallow.ShallowTables.{shallow_kept}
+use Rattle.trees.proofs.Renaming.RenamedNets.{settled_renamed, shallow_renamed}
+use Rattle.trees.proofs.Shallow.ShallowTables.{shallow_kept}
 use Rattle.readback.specs.Sheets.ReadBack.{net_read_back}
 use Rattle.demands.specs.Sheets.FullSheets.{full_keeps}
 use Rattle.demands.specs.Settling.Makes.{HasTree, two_tree, made_accepted}

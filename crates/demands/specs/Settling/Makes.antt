@@ -17,7 +17,7 @@ use Rattle.rules.specs.Sheets.Reading.{read_net, table_of_net}
 use Rattle.rules.specs.Sheets.SheetRules.{IsNet, NetRules}
 use Rattle.rules.specs.Sheets.Sheets.{Gate, Net, Table}
 use Rattle.laws.specs.Calls.Settling.{WholeTwo, marks_of_table, make_accepted, into_marked, marked_16, marked_tree}
-use Rattle.trees.specs.Trees.Existence.{tree_exists, settled_net_lem}
+use Rattle.trees.proofs.Trees.Existence.{tree_exists, settled_net_lem}
 use Rattle.trees.specs.Trees.Uniqueness.{table_is, table_at}
 use Rattle.readback.specs.Sheets.Length.{net_length}
 use Rattle.readback.specs.Sheets.ReadBack.{net_read_back, net_accepted}

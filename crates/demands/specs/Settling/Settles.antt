@@ -18,7 +18,7 @@ use Rattle.demands.specs.Sheets.FirstLines.{three_lines, three_lines_lem, same_l
 use Rattle.readback.specs.Sheets.ReadBack.{net_read_back, net_accepted}
 use Rattle.readback.specs.Sheets.Length.{net_length}
 use Rattle.laws.specs.Calls.Answers.{accepted_inj, written_front, not_refused}
-use Rattle.trees.specs.Trees.NetTables.{net_whole_two, settled_kept, settled_has_table}
+use Rattle.trees.proofs.Trees.NetTables.{net_whole_two, settled_kept, settled_has_table}
 
 -- "A call that writes a sheet answers its length, and the sheet is that many bytes from the front of the output."
 unfoldable pub sheet_in : Answer ℕ → List ℕ → Answer (List ℕ)

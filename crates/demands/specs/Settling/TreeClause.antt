@@ -13,7 +13,8 @@ use Rattle.rules.specs.Sheets.SheetRules.{HeaderRules}
 use Rattle.rules.specs.Sheets.Sheets.{Net, Table}
 use Rattle.laws.specs.Numbers.Assignments.{each_assignment}
 use Rattle.trees.specs.Trees.Uniqueness.{table_at}
-use Rattle.trees.specs.Trees.TreeExistence.{tree_value_at, tree_at_levels, trees_are_nets, net_is_gate_tree}
+use Rattle.trees.specs.Trees.TreeExistence.{tree_value_at, tree_at_levels, net_is_gate_tree}
+use Rattle.trees.proofs.Trees.TreeExistence.{trees_are_nets}
 use Rattle.readback.specs.Sheets.ReadBack.{net_accepted}
 use Rattle.trees.specs.Trees.NetTables.{levels_pos}
 use Rattle.demands.specs.Settling.Makes.{make_refuses}

@@ -6,7 +6,7 @@ use Rattle.rules.specs.Calls.OpenCells.{read_full}
 use Rattle.rules.specs.Calls.ShallowSettling.{shallow_net, settle_shallow_call, make_shallow_call}
 use Rattle.rules.specs.Sheets.Sheets.{Table}
 use Rattle.readback.specs.Readers.Numbers.{net_numbers}
-use Rattle.trees.specs.Shallow.ShallowTables.{shallow_as_long}
+use Rattle.trees.proofs.Shallow.ShallowTables.{shallow_as_long}
 use Rattle.demands.specs.Numbers.Numbers.{Gives}
 use Rattle.demands.specs.Settling.Settles.{LongFor, Long}
 use Rattle.demands.specs.Settling.Makes.{HasTree, two_tree}

@@ -20,7 +20,7 @@ use Rattle.laws.specs.Calls.ShallowSettling.{make_shallow_accepted}
 use Rattle.readback.specs.Sheets.ReadBack.{net_accepted, net_read_back}
 use Rattle.readback.specs.Sheets.Length.{net_length}
 use Rattle.trees.specs.Shallow.Depths.{depth}
-use Rattle.trees.specs.Shallow.ShallowTables.{shallow_kept, shallow_has_table, shallow_least_gates, shallow_least_tree, shallow_least_net}
+use Rattle.trees.proofs.Shallow.ShallowTables.{shallow_kept, shallow_has_table, shallow_least_gates, shallow_least_tree, shallow_least_net}
 use Rattle.demands.specs.Settling.Settles.{LongFor, table_path}
 use Rattle.demands.specs.Settling.Makes.{HasTree, two_tree}
 use Rattle.demands.specs.Settling.TreeClause.{TreeFor, TreeAgrees, agrees_all}

@@ -15,7 +15,7 @@ use Rattle.laws.specs.Calls.ShallowSettling.{plain_answer, plain_made, plain_int
 use Rattle.laws.specs.Calls.ShallowSettling.{make_shallow_refused, make_shallow_accepted}
 use Rattle.laws.specs.Calls.ButSheet.{ButSheet, but_none, into_but}
 use Rattle.readback.specs.Sheets.ReadBack.{net_accepted}
-use Rattle.trees.specs.Shallow.ShallowTables.{shallow_as_long}
+use Rattle.trees.proofs.Shallow.ShallowTables.{shallow_as_long}
 use Rattle.demands.specs.Numbers.Numbers.{Gives}
 use Rattle.demands.specs.Numbers.SettlingNumbers.{settle_numbers, make_numbers, settle_numbers_lem, make_numbers_lem, settle_never_16}
 use Rattle.demands.specs.Sheets.FullSheets.{FullTableRules, full_accepted, net_kept, full_keeps}

@@ -18,8 +18,9 @@ use Rattle.laws.specs.Calls.ShallowSettling.{settle_shallow_accepted, make_shall
 use Rattle.readback.specs.Sheets.ReadBack.{net_accepted, net_read_back}
 use Rattle.readback.specs.Sheets.Length.{net_length}
 use Rattle.trees.specs.Shallow.Depths.{depth}
-use Rattle.trees.specs.Trees.NetTables.{kept_table, net_full, net_whole_two}
-use Rattle.trees.specs.Shallow.ShallowTables.{shallow_kept, shallow_has_table, shallow_least_gates, shallow_least_tree, shallow_least_net}
+use Rattle.trees.specs.Trees.NetTables.{kept_table, net_full}
+use Rattle.trees.proofs.Trees.NetTables.{net_whole_two}
+use Rattle.trees.proofs.Shallow.ShallowTables.{shallow_kept, shallow_has_table, shallow_least_gates, shallow_least_tree, shallow_least_net}
 use Rattle.demands.specs.Sheets.FirstLines.{three_lines, three_lines_lem, same_lines}
 use Rattle.demands.specs.Settling.Settles.{sheet_of, LongFor, net_written, table_path}
 use Rattle.demands.specs.Sheets.FullSheets.{full_accepted, net_kept}

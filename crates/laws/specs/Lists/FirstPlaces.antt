@@ -5,7 +5,6 @@ use Rattle.laws.specs.Prelude.{map, zero-add, add-zero, suc-add, arith, ltb, leb
 use Rattle.rules.specs.Lists.{range, any, first_place, all}
 use Rattle.laws.specs.Lists.Tests.{any_cons}
 use Rattle.laws.specs.Lists.Ranges.{range_length, range_at}
-use Rattle.rules.specs.Calls.Answers as answers
 
 -- by the first element's test
 pub first_cons : {A : Type 0} (test : A → Bool) (x : A) (xs : List A) → first_place test (x ∷ xs) ≡ cond (test x) zero (suc (first_place test xs))

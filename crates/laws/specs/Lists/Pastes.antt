@@ -3,7 +3,6 @@
 use Rattle.laws.specs.Prelude.{ℕ, ◌<◌, ◌≤◌, ◌+◌, suc, zero, ◌≡◌, ◌∙◌, sym, ap, refl, List, [], ◌∷◌, ◌++◌, append_assoc, add-zero, suc-add, add-suc}
 use Rattle.laws.specs.Prelude.{arith, length, get_or, take, drop, set, length-set, length-drop, take-append-drop, get_or-set_same, get_or-set_other}
 use Rattle.laws.specs.Prelude.{length-take-le, take_at, paste, sets, take_all, drop_at, drop-append-le, take-append-le}
-use Rattle.std.proofs.Math.ListN
 
 module _ {A : Type 0} (d : List A) (from : ℕ) (v : List A) (n : ℕ) (fits : from + n ≤ length d) (long : length v ≡ n) where
   front : length (take from d) ≡ from

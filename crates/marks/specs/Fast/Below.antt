@@ -14,7 +14,7 @@ use Rattle.trees.specs.Groups.Covers.{whole_few}
 use Rattle.trees.specs.Groups.Members.{member_ext, member_zero}
 use Rattle.trees.specs.Groups.MarkRule.{marked, mark_rule, mark_agree}
 use Rattle.trees.specs.Leaves.CutWirings.{Idle}
-use Rattle.trees.specs.Leaves.IdleMarks.{mattering_mark}
+use Rattle.trees.proofs.Leaves.IdleMarks.{mattering_mark}
 use Rattle.radix.specs.Parts.{member_and, without_apart}
 use Rattle.representatives.specs.Copies.{Copied}
 use Rattle.representatives.specs.Known.{Known, Found, found_few, found_many}

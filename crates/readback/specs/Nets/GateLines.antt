@@ -49,8 +49,8 @@ unfolding after_lines concat_map fed
 after_first [] rest h = refl
 after_first (w ∷ ws) rest h =
     let more = concat_map fed ws ++ rest in
-    rw (first_of w ws rest, after_front (w ++ newline ∷ more) (length ws), length_one w more h.0, past_one w more, after_first ws rest h.1)
-    (simp length-append (omega arith))
+    ap (λ (t : List ℕ). after_lines t (suc (length ws))) (first_of w ws rest) ∙ after_front (w ++ newline ∷ more) (length ws)
+    ∙ rw (length_one w more h.0, past_one w more, after_first ws rest h.1) (simp length-append (omega arith))
 
 unbroken_take : (k : ℕ) (ws : List (List ℕ)) → Unbroken ws → Unbroken (take k ws)
 unbroken_take zero ws h = tt

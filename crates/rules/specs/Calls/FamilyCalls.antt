@@ -63,10 +63,10 @@ unfoldable pub after_count : ℕ → Table → List ℕ → List ℕ → List �
 after_count number t cells marks output =
     let all_marks_lem = marks_of t.header.levels t.header.inputs (ink_in t.inks) in
     let cells_then = written cells t.inks in
-    let Marks-then = written marks (stored_marks all_marks_lem) in
+    let marks_then = written marks (stored_marks all_marks_lem) in
     elim (ltb number (count_of_table t)) [
-      | false ↦ record { answer = refused 17 number; cells = cells_then; marks = Marks-then; output = output }
-      | true ↦ written_sheet (printed_net (family_net number t)) cells_then Marks-then output
+      | false ↦ record { answer = refused 17 number; cells = cells_then; marks = marks_then; output = output }
+      | true ↦ written_sheet (printed_net (family_net number t)) cells_then marks_then output
     ]
 
 -- 13, 14, 17, 15

@@ -42,10 +42,10 @@ after_marks net_for t cells marks output =
     let n = t.header.inputs in
     let all_marks_lem = marks_of t.header.levels n (ink_in t.inks) in
     let cells_then = written cells t.inks in
-    let Marks-then = written marks (stored_marks all_marks_lem) in
+    let marks_then = written marks (stored_marks all_marks_lem) in
     elim (eqb (mark_in all_marks_lem (whole_group n)) 2) [
-      | false ↦ record { answer = refused 16 (no_tree_place n all_marks_lem); cells = cells_then; marks = Marks-then; output = output }
-      | true ↦ written_sheet (printed_net (net_for t)) cells_then Marks-then output
+      | false ↦ record { answer = refused 16 (no_tree_place n all_marks_lem); cells = cells_then; marks = marks_then; output = output }
+      | true ↦ written_sheet (printed_net (net_for t)) cells_then marks_then output
     ]
 
 -- "Judged in this order after the input": 13: cells buffer short; 14: marks buffer short. "Needed: m to the n bytes, ..", and for the marks "2 to the

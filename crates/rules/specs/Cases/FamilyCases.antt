@@ -13,7 +13,7 @@ use Rattle.rules.specs.Nets.Leaves.{leaves_of}
 use Rattle.rules.specs.Calls.Answers.{accepted, ink_in}
 use Rattle.rules.specs.Calls.FamilyCalls.{count_of_table, family_count_call, family_tree_call}
 use Rattle.rules.specs.Cases.Cases.{zero_table, majority, marks_of_case}
-use Rattle.rules.specs.Cases.Written.{paper, digits, abc, nines, writing}
+use Rattle.rules.specs.Cases.Written.{paper, abc, nines, writing}
 use Rattle.rules.specs.Evaluation.{computing}
 
 -- 1 where an odd number of a b c are 1: each input matters, and every group has mark 2

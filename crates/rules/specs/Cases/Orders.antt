@@ -14,7 +14,7 @@ use Rattle.rules.specs.Calls.Keeping.{turned_away, keep_call}
 use Rattle.rules.specs.Nets.Arrivals.{net_refused, arrivals_refused, arrivals_call}
 use Rattle.rules.specs.Calls.Tidying.{tidy_call}
 use Rattle.rules.specs.Calls.Glyphs.{glyph_call}
-use Rattle.rules.specs.Cases.Written.{digits, nines, writing}
+use Rattle.rules.specs.Cases.Written.{nines, writing}
 use Rattle.rules.specs.Evaluation.{computing}
 
 -- ---- a sheet

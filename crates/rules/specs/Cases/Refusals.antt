@@ -1,14 +1,14 @@
--- The examples of docs/REFUSALS.md as one theorem, `refusals_hold`: every refusal, 1 to 27, by calls that give it, with its number, its
--- place, and what each buffer lent to the call holds afterwards. They compute, so even a reader who trusts nothing can watch each number
+-- The examples of docs/REFUSALS.md as one theorem, `refusals_hold` (in proofs/Cases/Refusals): every refusal, 1 to 27, by calls that give it,
+-- with its number, its place, and what each buffer lent to the call holds afterwards. They compute, so even a reader who trusts nothing can watch each number
 -- come out. The document's examples are exactly these (rust/sitgurp/tests/refusals.rs).
 -- Assumes nothing.
-use Rattle.std.specs.Prelude.{ℕ, ◌≡◌, refl, true, false, List, [], ◌∷◌, replicate, eqb, ℤ}
+use Rattle.std.specs.Prelude.{ℕ, ◌≡◌, true, false, List, [], ◌∷◌, replicate, eqb, ℤ}
 use Prim.Native.String.{String}
 use Rattle.rules.specs.Text.{text}
 use Rattle.rules.specs.Sheets.Sheets.{Net}
 use Rattle.rules.specs.Calls.Answers.{Named, accepted, refused, onward, net_named, table_named, neither}
 use Rattle.rules.specs.Sheets.Reading.{read_net, read_table}
-use Rattle.rules.specs.Calls.OpenCells.{full_cells, read_full}
+use Rattle.rules.specs.Calls.OpenCells.{read_full}
 use Rattle.rules.specs.Calls.Multiplicity.{multiplicity_call}
 use Rattle.rules.specs.Calls.Marking.{marking_call}
 use Rattle.rules.specs.Calls.Settling.{settle_call, make_call}
@@ -24,9 +24,8 @@ use Rattle.rules.specs.Sheets.LooseSheet.{read_loose}
 use Rattle.rules.specs.Calls.Tidying.{tidy_call}
 use Rattle.rules.specs.Calls.Jobs.{Job, empty_job, open_job, step_job, ask_job, finish_job, step, after_moves}
 use Rattle.rules.specs.Calls.Glyphs.{glyph_call}
-use Rattle.rules.specs.Cases.Written.{paper, digits, letter_names, nines, writing}
-use Rattle.rules.specs.Evaluation.{computing}
-use Rattle.rules.specs.Cases.GlyphCases.{signed_from, signed}
+use Rattle.rules.specs.Cases.Written.{paper, digits, letter_names, nines}
+use Rattle.rules.specs.Cases.GlyphCases.{signed}
 
 -- ---- what an example says
 
@@ -113,10 +112,6 @@ pub loose_back : {sheet : List ℕ} {number place : ℕ} → read_loose sheet �
 unfolding tidy_call
 loose_back e = record { tidying = λ cells output. rw (e, tidy_call) }
 
-pub cells_back : {m n : ℕ} {cells : List ℕ} {number place : ℕ} → full_cells m n cells ≡ refused number place → CellsBack m n cells number place
-unfolding multiplicity_call marking_call onward
-cells_back e = record { counting = λ g. rw (e, multiplicity_call); marking = λ marks. rw (e, marking_call) }
-
 -- If two sheets are given, 27 names the table sheet; 12, 13, 15 and 23 name neither.
 unfoldable pub named_by : ℕ → Named
 named_by number = elim (eqb number 27) [ true ↦ table_named | false ↦ neither ]
@@ -133,17 +128,17 @@ pub data Example : Type 0 where
   group : (m n : ℕ) (cells : String) (g number place : ℕ) → Example
   marking : (m n : ℕ) (cells : String) (marks number place : ℕ) → Example
   check : (net_sheet_lem table_sheet_lem : String) (cells number place : ℕ) → Example
-  settle : (sheet : String) (cells marks output number place : ℕ) (cells_then : String) (Marks-then : List ℕ) → Example
-  make : (sheet : String) (cells marks output number place : ℕ) (cells_then : String) (Marks-then : List ℕ) → Example
+  settle : (sheet : String) (cells marks output number place : ℕ) (cells_then : String) (marks_then : List ℕ) → Example
+  make : (sheet : String) (cells marks output number place : ℕ) (cells_then : String) (marks_then : List ℕ) → Example
   write : (sheet : String) (output number place : ℕ) → Example
-  count : (sheet : String) (cells marks number place : ℕ) (cells_then : String) (Marks-then : List ℕ) → Example
-  tree : (sheet : String) (order cells marks output number place : ℕ) (cells_then : String) (Marks-then : List ℕ) → Example
+  count : (sheet : String) (cells marks number place : ℕ) (cells_then : String) (marks_then : List ℕ) → Example
+  tree : (sheet : String) (order cells marks output number place : ℕ) (cells_then : String) (marks_then : List ℕ) → Example
   arrival : (sheet : String) (number place : ℕ) → Example
   loose : (sheet : String) (number place : ℕ) → Example
   tidy : (sheet : String) (cells output number place : ℕ) (cells_then : String) → Example
   further : (sheet : String) (steps number place : ℕ) → Example
   ask : (sheet : String) (steps g number place : ℕ) → Example
-  finish : (sheet : String) (steps cells marks output number place : ℕ) (cells_then : String) (Marks-then : List ℕ) → Example
+  finish : (sheet : String) (steps cells marks output number place : ℕ) (cells_then : String) (marks_then : List ℕ) → Example
   keep : (net_sheet_lem table_sheet_lem : String) (cells output number place : ℕ) (cells_then : String) → Example
   glyph : (sheet picture offsets : String) (width height output number place : ℕ) → Example
 
@@ -162,35 +157,35 @@ Comes (check net_sheet_lem table_sheet_lem cells number place) =
     check_call (paper net_sheet_lem) (paper table_sheet_lem) (nines cells)
     ≡ record { answer = turned_down neither number place; cells = nines cells }
 -- settling and making: cells and marks as stated, the output unchanged
-Comes (settle sheet cells marks output number place cells_then Marks-then) =
+Comes (settle sheet cells marks output number place cells_then marks_then) =
     settle_call (paper sheet) (nines cells) (nines marks) (nines output)
     ≡ record {
       answer = refused number place;
       cells = digits (text cells_then);
-      marks = Marks-then;
+      marks = marks_then;
       output = nines output;
     }
-Comes (make sheet cells marks output number place cells_then Marks-then) =
+Comes (make sheet cells marks output number place cells_then marks_then) =
     make_call (paper sheet) (nines cells) (nines marks) (nines output)
     ≡ record {
       answer = refused number place;
       cells = digits (text cells_then);
-      marks = Marks-then;
+      marks = marks_then;
       output = nines output;
     }
 -- table writing
 Comes (write sheet output number place) =
     write_table_call (paper sheet) (nines output) ≡ record { answer = refused number place; output = nines output }
 -- the count of the trees, which has no output; the tree of an order number
-Comes (count sheet cells marks number place cells_then Marks-then) =
+Comes (count sheet cells marks number place cells_then marks_then) =
     family_count_call (paper sheet) (nines cells) (nines marks)
-    ≡ record { answer = refused number place; cells = digits (text cells_then); marks = Marks-then }
-Comes (tree sheet order cells marks output number place cells_then Marks-then) =
+    ≡ record { answer = refused number place; cells = digits (text cells_then); marks = marks_then }
+Comes (tree sheet order cells marks output number place cells_then marks_then) =
     family_tree_call (paper sheet) order (nines cells) (nines marks) (nines output)
     ≡ record {
       answer = refused number place;
       cells = digits (text cells_then);
-      marks = Marks-then;
+      marks = marks_then;
       output = nines output;
     }
 -- an arrival sheet for the inputs a and b, refused by the one call that takes one
@@ -205,14 +200,14 @@ Comes (further sheet steps number place) =
     step_job (job_stepped sheet steps) ≡ record { job = job_stepped sheet steps; answer = refused number place }
 Comes (ask sheet steps g number place) =
     ask_job (job_stepped sheet steps) g ≡ record { job = job_stepped sheet steps; answer = refused number place }
-Comes (finish sheet steps cells marks output number place cells_then Marks-then) =
+Comes (finish sheet steps cells marks output number place cells_then marks_then) =
     finish_job (job_stepped sheet steps) (nines cells) (nines marks) (nines output)
     ≡ record {
       job = job_stepped sheet steps;
       made = record {
         answer = refused number place;
         cells = digits (text cells_then);
-        marks = Marks-then;
+        marks = marks_then;
         output = nines output;
       };
     }
@@ -374,19 +369,3 @@ refusals =
     ∷ keep "levels inputs/2 2/a b/left right table/a b 0001/" "levels inputs/2 2/a b ink/0 0 0/0 1 -/1 0 0/1 1 1/" 0 0 27 1 ""
     ∷ finish "levels inputs/2 2/a b ink/0 0 0/0 1 -/1 0 0/1 1 1/" 0 4 4 48 9 0 "9999" (nines 4)
     ∷ []
-
-pub refusals_hold : AllCome refusals
-unfolding computing writing named_by job_stepped signed_from signed
-refusals_hold =
-    net_back_lem refl and net_back_lem refl and table_back refl and net_back_lem refl and net_back_lem refl and net_back_lem refl and net_back_lem refl
-    and net_back_lem refl and net_back_lem refl and net_back_lem refl and net_back_lem refl and table_back refl and loose_back refl and loose_back refl and loose_back refl
-    and loose_back refl and loose_back refl and net_back_lem refl and net_back_lem refl and net_back_lem refl and table_back refl and net_back_lem refl
-    and net_back_lem refl and table_back refl and table_back refl and loose_back refl and table_back refl and table_back refl and net_back_lem refl and net_back_lem refl
-    and net_back_lem refl and net_back_lem refl and net_back_lem refl and net_back_lem refl and cells_back refl and cells_back refl and cells_back refl
-    and cells_back refl and refl and cells_back refl and refl and refl and refl and refl and refl and refl and refl and refl and refl
-    and refl and refl and refl and refl and refl and refl and refl and refl and refl and refl and refl and refl and refl and refl and refl
-    and refl and refl and refl and arrivals_back_lem refl and arrivals_back_lem refl and arrivals_back_lem refl and arrivals_back_lem refl
-    and arrivals_back_lem refl and arrivals_back_lem refl and loose_back refl and loose_back refl and refl and refl and refl and refl and refl
-    and refl and refl and refl and refl and refl and refl and refl and refl and refl and refl and net_back_lem refl and net_back_lem refl and net_back_lem refl
-    and cells_back refl and cells_back refl and refl and refl and refl and refl and refl
-    and none

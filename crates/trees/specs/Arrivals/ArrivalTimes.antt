@@ -3,7 +3,7 @@
 -- Assumes nothing.
 use Rattle.laws.specs.Prelude.{ℕ, ◌<◌, ◌≤◌, ◌+◌, ◌-◌, suc, ◌*◌, max, ◌≡◌, ◌∙◌, sym, ap, refl, ap₂, ⊎_elim, true, false, Bool, List, [], ◌∷◌, ◌++◌, map}
 use Rattle.laws.specs.Prelude.{Memᴰ, mem_head, mem_not_nil, mem_append_cases, map-map, mem_eq_of_singleton, mem_append_right}
-use Rattle.laws.specs.Prelude.{mem_append_left, mem_of_map, mem_map, add_comm, le_antisymm, mul-suc, max-zero, arith, max_cases, eqb, length, get_or}
+use Rattle.laws.specs.Prelude.{mem_append_left, mem_of_map, mem_map, le_antisymm, mul-suc, max-zero, arith, max_cases, eqb, length, get_or}
 use Rattle.laws.specs.Prelude.{length-append, length-map, eq-eqb, eqb-true}
 use Rattle.rules.specs.Groups.Groups.{member}
 use Rattle.rules.specs.Lists.{range, any}
@@ -12,7 +12,7 @@ use Rattle.rules.specs.Nets.Trees.{Tree, leaf, wiring_in, EachOnce}
 use Rattle.rules.specs.Nets.Wirings.{Wiring, input, gate, group_of}
 use Rattle.rules.specs.Sheets.SheetRules.{RefersBack, IsNet}
 use Rattle.rules.specs.Sheets.Sheets.{Gate, used_by}
-use Rattle.rules.specs.Nets.Layers.{most, layers}
+use Rattle.rules.specs.Nets.Layers.{most}
 use Rattle.laws.specs.Lists.Extremes.{most_bounds, most_listed}
 use Rattle.laws.specs.Lists.Places.{map_at, mem_place}
 use Rattle.laws.specs.Lists.Ranges.{by_places}
@@ -25,8 +25,7 @@ use Rattle.trees.specs.Trees.Wirings.{group_below}
 use Rattle.trees.specs.Trees.Forest.{joined_tree, with_trees, input_trees, inputs_length}
 use Rattle.trees.specs.Trees.NetTree.{net_tree, net_wiring, net_uses}
 use Rattle.trees.specs.Trees.UsedOnce.{listed_used, used_listed, used_inputs_length}
-use Rattle.trees.specs.Shallow.Depths.{depth}
-use Rattle.trees.specs.Shallow.Layers.{gates_ways, net_layers_lem}
+use Rattle.trees.specs.Shallow.Layers.{gates_ways}
 
 -- the largest of a single number
 most_one : (k : ℕ) → most (k ∷ []) ≡ k
@@ -218,12 +217,3 @@ module _ (m n : ℕ) (gates : List Gate) (net : IsNet m n gates) where
         (sym (gates_times delay arrival gates (input_trees n) (rw inputs_length net.rules.back))
         ∙ ap (λ (times : List ℕ). with_times delay times gates)
         (inputs_times delay arrival n ∙ ap (λ (k : ℕ). map arrival (range 0 k)) (sym count) ∙ by_places 0 arrivals))
-
-  -- if every arrival is 0 and the delay is 1, it is the number of layers
-  pub settling_layers : (arrivals : List ℕ) → ((i : ℕ) → get_or arrivals i 0 ≡ 0) → settling_time n gates 1 arrivals ≡ layers n gates
-  unfolding time_in depth
-  settling_layers arrivals none = settling_tree 1 arrivals ∙ as_depth tree ∙ sym (net_layers_lem m n gates net)
-    where
-      as_depth : (w : Wiring) → time_in 1 (λ i. get_or arrivals i 0) w ≡ depth w
-      as_depth (input i) = none i
-      as_depth (gate a b) = ap₂ (λ (x y : ℕ). max x y + 1) (as_depth a) (as_depth b) ∙ add_comm (max (depth a) (depth b)) 1

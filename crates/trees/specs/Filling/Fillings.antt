@@ -5,18 +5,16 @@ use Rattle.laws.specs.Prelude.{ℕ, ◌<◌, ◌+◌, ◌^◌, ◌≡◌, ◌∙
 use Rattle.laws.specs.Prelude.{add-zero, arith, eqb, length, get_or, length-append, get_or-append_seam, ne_eqb}
 use Rattle.rules.specs.Lists.{with_each}
 use Rattle.rules.specs.Nets.Filling.{gate_digits, input_groups, filled_from, filled}
-use Rattle.rules.specs.Nets.Trees.{EachOnce, Filled, tree_value, UsesJust}
-use Rattle.rules.specs.Nets.Value.{value}
+use Rattle.rules.specs.Nets.Trees.{EachOnce}
 use Rattle.rules.specs.Nets.Wirings.{Wiring, input, gate, group_of, Link, gates_in, reference_to, links_of}
-use Rattle.rules.specs.Sheets.SheetRules.{IsNet}
 use Rattle.rules.specs.Sheets.Sheets.{Gate}
 use Rattle.laws.specs.Lists.Ranges.{map_range_length, map_range_at}
-use Rattle.trees.specs.Trees.Trees.{EachGate, fill}
+use Rattle.trees.specs.Trees.Trees.{EachGate}
 use Rattle.laws.specs.Lists.WithEach.{with_each_append, with_each_length, with_each_earlier}
 use Rattle.trees.specs.Groups.Classes.{Few}
 use Rattle.trees.specs.Filling.DigitRule.{Parts}
 use Rattle.trees.specs.Trees.Wirings.{gate_parts}
-use Rattle.trees.specs.Trees.GateLists.{gate_list, reference_below, gate_list_net, gate_list_uses, gate_list_value}
+use Rattle.trees.specs.Trees.GateLists.{gate_list, reference_below}
 
 -- ---- the groups of the references
 
@@ -158,18 +156,6 @@ module _ (m n : ℕ) (f : ℕ → ℕ) where
       ap (filled_from m n f (input_groups n)) (sym (append-nil (links_of n 0 w)))
       ∙ filled_links 0 (input_groups n) w [] once (inputs_grouped n)
       ∙ append-nil (gate_list m n f true 0 w)
-
-  -- they follow the rules of a net, and have the tree's value
-  pub filled_net : (w : Wiring) → EachOnce n w → 0 < gates_in w → Filled m (fill m n f true w) → IsNet m n (filled m n f (links_of n 0 w))
-  filled_net w once some tables = rw (filled_list w once) (gate_list_net m n f w once some tables)
-
-  -- they use just the wiring's leaves
-  pub filled_uses : (w : Wiring) → EachOnce n w → 0 < gates_in w → UsesJust n (filled m n f (links_of n 0 w)) (group_of w)
-  filled_uses w once some = rw (filled_list w once) (gate_list_uses m n f w once some)
-
-  pub filled_value : (a b : Wiring) → EachOnce n (gate a b) → (p : ℕ)
-      → value m n (filled m n f (links_of n 0 (gate a b))) p ≡ tree_value m n (fill m n f true (gate a b)) p
-  filled_value a b once p = rw (filled_list (gate a b) once) (gate_list_value m n f a b once p)
 
 -- ---- what can be filled
 

@@ -8,7 +8,7 @@ use Rattle.rules.specs.Calls.Keeping.{link_of}
 use Rattle.rules.specs.Lists.{any, with_each}
 use Rattle.rules.specs.Nets.Family.{groups_from, gate_groups, SameWiring}
 use Rattle.rules.specs.Nets.Filling.{input_groups, filled_from, filled}
-use Rattle.rules.specs.Nets.Trees.{Tree, leaf, wiring_in, EachOnce, Turned}
+use Rattle.rules.specs.Nets.Trees.{Tree, leaf, wiring_in, EachOnce}
 use Rattle.rules.specs.Nets.Wirings.{Wiring, input, gate, group_of, Link, gates_in, links_of}
 use Rattle.rules.specs.Sheets.SheetRules.{RefersBack, IsNet}
 use Rattle.rules.specs.Sheets.Sheets.{Gate, used_by}
@@ -24,7 +24,7 @@ use Rattle.trees.specs.Trees.UsedOnce.{net_gates}
 use Rattle.trees.specs.Filling.Fillings.{link_group, with_groups, own_link, Grouped, inputs_grouped, grouped_after, groups_after, left_group, right_group}
 use Rattle.trees.specs.Filling.GateLinks.{tree_group, groups_in, group_at, groups_joined_lem, inputs_in}
 use Rattle.trees.specs.Families.NormalWirings.{groups_joined, Joins, SameGates, joins_left, joins_right, joins_own, joins_cases, joins_none}
-use Rattle.trees.specs.Families.NormalWirings.{joined_leaves, turned_same, same_turned}
+use Rattle.trees.specs.Families.NormalWirings.{joined_leaves}
 
 -- ---- a wiring's links, filled
 
@@ -261,10 +261,3 @@ module _ (m n : ℕ) (gates others : List Gate) (net : IsNet m n gates) (net' : 
   same_leaves same =
       joined_leaves n first second (net_tree m n gates net).once (net_tree m n others net').once
       (omega (arith, net_gates m n gates net, net.some)) (omega (arith, net_gates m n others net', net'.some)) (same_gates.0 same)
-
-  -- .. and that holds exactly if the trees "differ only in which side is left".
-  pub same_wiring : SameWiring n gates others ↔ Turned first second
-  same_wiring = (
-    λ same. same_turned n first second (net_tree m n gates net).once (net_tree m n others net').once (same_leaves same) (same_gates.0 same),
-    λ turned. same_gates.1 (turned_same turned),
-  )

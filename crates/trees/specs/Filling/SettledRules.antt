@@ -8,7 +8,8 @@ use Rattle.rules.specs.Groups.Groups.{size, points, alike, classes, multiplicity
 use Rattle.rules.specs.Groups.Marks.{marks_of}
 use Rattle.rules.specs.Lists.{first_place}
 use Rattle.rules.specs.Nets.Settled.{split_of}
-use Rattle.rules.specs.Nets.SettledLaws.{MayBeA, split_lowest, ByAppearance, classes_by_appearance}
+use Rattle.rules.specs.Nets.SettledLaws.{MayBeA, split_lowest, ByAppearance}
+use Rattle.rules.proofs.Nets.SettledLaws.{classes_by_appearance}
 use Rattle.laws.specs.Lists.FirstPlaces.{before_first, first_passes}
 use Rattle.trees.specs.Trees.Trees.{Alike}
 use Rattle.trees.specs.Groups.Points.{points_are_parts, points_rise}

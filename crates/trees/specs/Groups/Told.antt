@@ -17,7 +17,7 @@ abbrev pub SameAt : ℕ → ℕ → ℕ → ℕ → ℕ → Type 0
 SameAt m n s y z = (i : ℕ) → i < n → member i s ≡ true → level m n y i ≡ level m n z i
 
 -- a column at which rows p and q of g differ, and which has the levels of `base` at the inputs of s
-pub record Apart-at (m n : ℕ) (f : ℕ → ℕ) (g s base p q : ℕ) : Type 0 where
+pub record ApartAt (m n : ℕ) (f : ℕ → ℕ) (g s base p q : ℕ) : Type 0 where
   pub column : ℕ
   pub same : SameAt m n s column base
   pub differ : f (mix m n g p column) ≢ f (mix m n g q column)
@@ -26,7 +26,7 @@ pub record Apart-at (m n : ℕ) (f : ℕ → ℕ) (g s base p q : ℕ) : Type 0 
 pub record Told (m n : ℕ) (f : ℕ → ℕ) (g s k : ℕ) : Type 0 where
   pub row : ℕ → ℕ
   pub base : ℕ
-  pub apart : (i j : ℕ) → i < j → j < k → Apart-at m n f g s base (row i) (row j)
+  pub apart : (i j : ℕ) → i < j → j < k → ApartAt m n f g s base (row i) (row j)
 
 module _ (m n : ℕ) (pos : 0 < m) (f : ℕ → ℕ) where
   -- they are in different classes

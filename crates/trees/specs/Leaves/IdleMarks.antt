@@ -1,21 +1,21 @@
 -- Idle inputs (document 02, K12) and marks: a group has the mark of the group of its members that matter, and mark 2 if none of them does. So only
 -- groups of inputs that matter need to be marked by document 01's rule.
 -- Assumes nothing.
-use Rattle.laws.specs.Prelude.{ℕ, ◌<◌, ◌≤◌, ◌^◌, ◌≡◌, ◌∙◌, sym, ap, refl, by_cases, true, false, Bool, true≢false, cond, dec_lt, arith, eqb, eq-eqb, ne_eqb}
+use Rattle.laws.specs.Prelude.{ℕ, ◌<◌, ◌≤◌, ◌^◌, ◌≡◌, ◌∙◌, sym, ap, refl, true, false, Bool, true≢false, cond, arith}
 use Rattle.rules.specs.Groups.Groups.{member, part, multiplicity}
 use Rattle.rules.specs.Nets.Leaves.{matters}
 use Rattle.rules.specs.Nets.Wirings.{first_input}
 use Rattle.rules.specs.Sheets.Sheets.{level}
 use Rattle.laws.specs.Lists.Tests.{not_true_false}
 use Rattle.trees.specs.Trees.Trees.{Alike}
-use Rattle.trees.specs.Groups.Members.{member_zero, inside_member, inside_le, single_below, size_single, first_member}
+use Rattle.trees.specs.Groups.Members.{inside_member, single_below, size_single, first_member}
 use Rattle.trees.specs.Groups.Levels.{level_ext, level_part, level_part_in, part_below, mix_self}
 use Rattle.trees.specs.Groups.Classes.{class_below, class_alike}
 use Rattle.trees.specs.Groups.Covers.{Covers}
-use Rattle.trees.specs.Groups.MarkRule.{Way, to_none, to_two, to_one, marked, way, three_way}
+use Rattle.trees.specs.Groups.MarkRule.{marked, three_way}
 use Rattle.trees.specs.Groups.TakenOff.{alone_inside}
 use Rattle.trees.specs.Leaves.Mattering.{mix_is, matters_differ}
-use Rattle.trees.specs.Leaves.CutWirings.{Idle, idle_mix, idle_few, hung, idle_marks}
+use Rattle.trees.specs.Leaves.CutWirings.{Idle, idle_mix, hung}
 
 module _ (m n : ℕ) (pos : 0 < m) (f : ℕ → ℕ) where
   -- ---- classes
@@ -53,25 +53,6 @@ module _ (m n : ℕ) (pos : 0 < m) (f : ℕ → ℕ) where
 
   -- ---- marks
 
-  -- idle inputs do not change the mark of a group that has other members
-  pub idle_mark : (g h : ℕ) → 0 < g → g < 2 ^ n → h < 2 ^ n → Idle m n pos f g h → marked m n pos f h ≡ marked m n pos f g
-  idle_mark g h some g< h< rest = go (way m n pos f g g<) (way m n pos f h h<)
-    where
-      same : multiplicity m n f g ≡ multiplicity m n f h
-      same = idle_few m n pos f g h g< h< rest
-
-      low : g ≤ h
-      low = inside_le n g h g< h< rest.part
-
-      go : Way m n f (marked m n pos f) g → Way m n f (marked m n pos f) h → marked m n pos f h ≡ marked m n pos f g
-      go (to_two _ _ _ e) _ = (idle_marks m n pos f g h some g< h< rest).0 e ∙ sym e
-      go (to_none _ e) (to_two _ _ _ d) = absurd (omega (arith, e, (idle_marks m n pos f g h some g< h< rest).1 d))
-      go (to_one _ _ _ _ e) (to_two _ _ _ d) = absurd (omega (arith, e, (idle_marks m n pos f g h some g< h< rest).1 d))
-      go (to_none _ e) (to_none _ d) = d ∙ sym e
-      go (to_none over _) (to_one _ few _ _ _) = absurd (over some (omega (arith, few, same)))
-      go (to_one _ few _ _ _) (to_none over _) = absurd (over (omega (arith, low)) (omega (arith, few, same)))
-      go (to_one _ _ _ _ e) (to_one _ _ _ _ d) = d ∙ sym e
-
   -- a group has mark 2 if none of its members matters
   pub all_idle_mark : (h : ℕ) → 0 < h → h < 2 ^ n → ((i : ℕ) → i < n → member i h ≡ true → matters m n f i ≡ false) → marked m n pos f h ≡ 2
   all_idle_mark h some h< idle =
@@ -79,11 +60,3 @@ module _ (m n : ℕ) (pos : 0 < m) (f : ℕ → ℕ) where
       hung m n pos f (2 ^ first_input n h) h (single_below (first_input n h) n i<) h<
       (record { part = alone_inside n h (first_input n h) h< i< is; idle = λ j j< in_h _. idle j j< in_h })
       ((three_way m n pos f (2 ^ first_input n h) (single_below (first_input n h) n i<)).single (size_single (first_input n h) n i<))
-
-  -- the mark of a non-empty group h, from any group g inside it that has all its members that matter
-  pub mattering_mark : (g h : ℕ) → 0 < h → g < 2 ^ n → h < 2 ^ n → Idle m n pos f g h → marked m n pos f h ≡ cond (eqb g 0) 2 (marked m n pos f g)
-  mattering_mark g h some g< h< rest =
-      by_cases (dec_lt 0 g)
-      (λ more. rw (ne_eqb g 0 (λ e. omega arith)) (idle_mark g h more g< h< rest)) λ none.
-      let empty : g ≡ 0 = omega arith in
-      rw (eq-eqb g 0 empty) (all_idle_mark h some h< (λ i i< is. rest.idle i i< is (ap (member i) empty ∙ member_zero i)))

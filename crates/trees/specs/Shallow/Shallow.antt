@@ -2,23 +2,21 @@
 -- shallowest": this holds at each gate; it is a wiring of the group, as deep as the group's fewest layers; and no wiring of the group with few
 -- classes at each gate has fewer.
 -- Assumes nothing.
-use Rattle.laws.specs.Prelude.{ℕ, ◌<◌, ◌≤◌, ◌+◌, ◌-◌, ◌^◌, max, ◌≡◌, ◌∙◌, sym, ap, ◌≢◌, ⊎_elim, true, Bool, ◌&&◌, and-eq-true_iff, List, le_of_eq, arith, eqb}
+use Rattle.laws.specs.Prelude.{ℕ, ◌<◌, ◌≤◌, ◌+◌, ◌-◌, ◌^◌, max, ◌≡◌, ◌≢◌, ⊎_elim, true, Bool, ◌&&◌, and-eq-true_iff, List, arith, eqb}
 use Rattle.laws.specs.Prelude.{eq-eqb, eqb-true}
 use Rattle.rules.specs.Groups.Groups.{size}
 use Rattle.rules.specs.Groups.Marks.{inside, marks_of}
-use Rattle.rules.specs.Nets.Trees.{EachOnce}
-use Rattle.rules.specs.Nets.Wirings.{Wiring, input, gate, group_of}
+use Rattle.rules.specs.Nets.Wirings.{Wiring, group_of}
 use Rattle.rules.specs.Nets.Shallow.{split_layers, fewest_layers, shallow_split, shallow_wiring}
 use Rattle.rules.specs.Nets.SettledLaws.{found_in_range, MayBeA, may_be_a, may_be_a_lem, may_be}
 use Rattle.trees.specs.Trees.Trees.{EachGate, WiringOf}
-use Rattle.trees.specs.Groups.Members.{member_inside, size_single, size_le}
+use Rattle.trees.specs.Groups.Members.{member_inside, size_le}
 use Rattle.trees.specs.Groups.Classes.{Few}
-use Rattle.trees.specs.Trees.Wirings.{group_below}
 use Rattle.trees.specs.Groups.MarkRule.{parts_found, parts_at_holds, marked}
-use Rattle.trees.specs.Trees.MarkTwo.{Splits, two_says, gate_twos, wiring_mark, wiring_of_lem, each_gate}
+use Rattle.trees.specs.Trees.MarkTwo.{Splits, two_says, wiring_of_lem, each_gate}
 use Rattle.trees.specs.Shallow.Depths.{depth}
-use Rattle.trees.specs.Shallow.FewestLayers.{fewest, fewest_least, fewest_single, Shallowest, fewest_attained}
-use Rattle.trees.specs.Shallow.Choices.{EachSplit, EachWithin, takes_chosen}
+use Rattle.trees.specs.Shallow.FewestLayers.{fewest, Shallowest, fewest_attained}
+use Rattle.trees.specs.Shallow.Choices.{EachSplit, takes_chosen}
 
 -- ---- "the part A of lowest number that keeps its own group shallowest"
 
@@ -58,22 +56,6 @@ module _ (n : ℕ) (marks : List ℕ) (g : ℕ) where
 -- ---- the least depth
 
 module _ (m n : ℕ) (pos : 0 < m) (f : ℕ → ℕ) where
-  -- the fewest layers of a group, by the table's marks
-  abbrev fewest_of_group : ℕ → ℕ
-  fewest_of_group g = fewest n (marks_of m n f) g
-
-  -- no wiring with few classes at each gate has fewer layers than its group's fewest
-  pub depth_at_least : (w : Wiring) → EachOnce n w → EachGate (Few m n f) w → fewest_of_group (group_of w) ≤ depth w
-  unfolding group_of depth gate_twos
-  depth_at_least (input i) once few =
-      le_of_eq (fewest_single n (marks_of m n f) (group_of (input i)) (group_below n (input i) once) (size_single i n once))
-  depth_at_least (gate a b) once few =
-      let twos = gate_twos m n pos f a b once (wiring_mark m n pos f a once.1 few.1) (wiring_mark m n pos f b once.2 few.2) in
-      let bound = fewest_least n (marks_of m n f) (group_of a + group_of b) (group_below n (gate a b) once) twos in
-      let left = depth_at_least a once.1 few.1 in
-      let right = depth_at_least b once.2 few.2 in
-      omega arith
-
   -- ---- the shallow wiring
 
   -- a group of mark 2 with several members: the shallow wiring's A is such a part, ..
@@ -111,26 +93,9 @@ module _ (m n : ℕ) (pos : 0 < m) (f : ℕ → ℕ) where
   abbrev pub TakesLowest : ℕ → ℕ → Type 0
   TakesLowest g a = MayBeShallowA n (marks_of m n f) g a × ((c : ℕ) → MayBeShallowA n (marks_of m n f) g c → a ≤ c)
 
-  -- a wiring that takes parts that keep their group shallowest at each gate is as deep as its group's fewest layers
-  depth_kept : (w : Wiring) → EachOnce n w → EachSplit TakesLowest w → depth w ≡ fewest_of_group (group_of w)
-  unfolding group_of depth
-  depth_kept (input i) once takes =
-      sym (fewest_single n (marks_of m n f) (group_of (input i)) (group_below n (input i) once) (size_single i n once))
-  depth_kept (gate a b) once takes =
-      let rest : group_of a + group_of b - group_of a ≡ group_of b = omega arith in
-      rw (depth_kept a once.1 takes.1, depth_kept b once.2 takes.2) (rw rest at takes.0.0.keeps)
-
   -- no wiring of the same group with few classes at each gate has fewer layers
   abbrev pub AsShallow : Wiring → Type 0
   AsShallow v = (w : Wiring) → WiringOf n (group_of v) w → EachGate (Few m n f) w → depth v ≤ depth w
-
-  as_shallow : (v : Wiring) → EachOnce n v → EachSplit TakesLowest v → AsShallow v
-  as_shallow v once takes w of few = rw (depth_kept v once takes, ← of.1) (depth_at_least w of.0 few)
-
-  each_as_shallow : (v : Wiring) → EachOnce n v → EachSplit TakesLowest v → EachWithin AsShallow v
-  each_as_shallow (input i) once takes = as_shallow (input i) once takes
-  each_as_shallow (gate a b) once takes =
-      (as_shallow (gate a b) once takes, each_as_shallow a once.1 takes.1, each_as_shallow b once.2 takes.2)
 
   module _ (leaves : ℕ) (leaves< : leaves < 2 ^ n) (two : marked m n pos f leaves ≡ 2) where
     abbrev shallow : Wiring
@@ -153,11 +118,3 @@ module _ (m n : ℕ) (pos : 0 < m) (f : ℕ → ℕ) where
     shallow_takes =
         takes_chosen n (marked m n pos f) leaves (shallow_part n (marks_of m n f)) (shallow_splits leaves) TakesLowest
         (λ g g< g_in two_g several_g. (shallow_parts g g< two_g several_g, shallow_least g)) n leaves leaves< self_inside (size_le n leaves) two
-
-    -- .. it has the group's fewest layers, ..
-    pub shallow_depth : depth shallow ≡ fewest_of_group leaves
-    shallow_depth = depth_kept shallow shallow_wiring_of.0.0 shallow_takes ∙ ap fewest_of_group shallow_wiring_of.0.1
-
-    -- .. and every wiring in it is as shallow as its own group allows
-    pub shallow_each : EachWithin AsShallow shallow
-    shallow_each = each_as_shallow shallow shallow_wiring_of.0.0 shallow_takes

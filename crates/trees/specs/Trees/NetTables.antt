@@ -1,14 +1,12 @@
 -- A net's table follows a table sheet's rules and has a tree; its settled net follows a net sheet's rules and has that table.
 -- Assumes nothing.
 use Rattle.laws.specs.Prelude.{ℕ, ◌<◌, ◌≡◌, subst, true, arith}
-use Rattle.rules.specs.Calls.Settling.{settled_net}
 use Rattle.rules.specs.Limits.{levels_fit, inputs_fit}
 use Rattle.rules.specs.Sheets.Reading.{table_of_net}
 use Rattle.rules.specs.Sheets.SheetRules.{NetRules, TableRules, FullTable}
 use Rattle.rules.specs.Sheets.Sheets.{Net}
 use Rattle.laws.specs.Numbers.Sizes.{levels_fit_lem, inputs_fit_lem}
-use Rattle.laws.specs.Calls.Settling.{WholeTwo}
-use Rattle.trees.specs.Trees.Uniqueness.{settled_of, net_table_length, net_inks, net_two, settled_is_net, settled_table}
+use Rattle.trees.specs.Trees.Uniqueness.{net_table_length, net_inks}
 
 pub levels_pos : (m : ℕ) → levels_fit m ≡ true → 0 < m
 levels_pos m h = omega (arith, ((levels_fit_lem m).0 h).0)
@@ -17,7 +15,7 @@ pub inputs_several : (n : ℕ) → inputs_fit n ≡ true → 1 < n
 inputs_several n h = ((inputs_fit_lem n).0 h).0
 
 module _ (net : Net) (kept : NetRules net) where
-  pos : 0 < net.header.levels
+  pub pos : 0 < net.header.levels
   pos = levels_pos net.header.levels kept.header.levels
 
   -- a net's table is full, ..
@@ -35,16 +33,3 @@ module _ (net : Net) (kept : NetRules net) where
     count = net_table_length net.header.levels net.header.inputs net.gates;
     within = λ k h. omega (arith, net_full k h);
   }
-
-  pub net_whole_two : WholeTwo (table_of_net net)
-  unfolding table_of_net
-  net_whole_two = net_two net.header.levels net.header.inputs pos net.gates kept.gates
-
-  -- its settled net follows a net's rules, and has its table
-  pub settled_kept : NetRules (settled_net (table_of_net net))
-  unfolding settled_net table_of_net settled_of
-  settled_kept = record { header = kept.header; gates = settled_is_net net.header.levels net.header.inputs pos net.gates kept.gates }
-
-  pub settled_has_table : table_of_net (settled_net (table_of_net net)) ≡ table_of_net net
-  unfolding settled_net table_of_net settled_of
-  settled_has_table = λ i. record { header = net.header; inks = settled_table net.header.levels net.header.inputs pos net.gates kept.gates i }

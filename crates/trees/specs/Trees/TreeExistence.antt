@@ -1,15 +1,15 @@
 -- Section I's trees themselves, with any wiring and any digits: each is some net, and each net is one. So a tree computes a table exactly
 -- if a net does.
 -- Assumes nothing.
-use Rattle.laws.specs.Prelude.{ℕ, ◌+◌, ◌*◌, ◌≡◌, ◌∙◌, sym, ◌↔◌, List, arith, get_or}
-use Rattle.rules.specs.Nets.Trees.{Tree, leaf, node, wiring_in, EachOnce, tree_value, TreeExists, UsesJust, GateTree, SomeTree}
+use Rattle.laws.specs.Prelude.{ℕ, ◌+◌, ◌*◌, ◌≡◌, List, arith, get_or}
+use Rattle.rules.specs.Nets.Trees.{Tree, leaf, node, wiring_in, EachOnce, tree_value, UsesJust, GateTree}
 use Rattle.rules.specs.Nets.Value.{value}
-use Rattle.rules.specs.Nets.Wirings.{group_of, gates_in}
+use Rattle.rules.specs.Nets.Wirings.{group_of}
 use Rattle.rules.specs.Sheets.SheetRules.{IsNet}
 use Rattle.rules.specs.Sheets.Sheets.{Gate, levels_at}
 use Rattle.trees.specs.Trees.NetTree.{TreeOf, net_tree, net_uses}
 use Rattle.trees.specs.Trees.UsedOnce.{net_gates}
-use Rattle.trees.specs.Trees.TreeLists.{tree_gates, lines_use, tree_net, tree_net_value, levels_valued}
+use Rattle.trees.specs.Trees.TreeLists.{levels_valued}
 
 -- Section I's value at an assignment, given by its levels
 unfoldable pub tree_value_at : ℕ → Tree → List ℕ → ℕ
@@ -23,18 +23,6 @@ tree_at_levels m n (leaf i) once p = (levels_valued n m p).1 i once
 tree_at_levels m n (node digits a b) once p = rw (tree_at_levels m n a once.1 p, tree_at_levels m n b once.2 p)
 
 module _ (m n : ℕ) where
-  -- each tree is some net, on the same leaves, ..
-  pub tree_is_net : (t : Tree) → GateTree m n t
-      → (gates : List Gate) × IsNet m n gates × ((p : ℕ) → value m n gates p ≡ tree_value m n t p) × UsesJust n gates (group_of (wiring_in t))
-  unfolding gates_in
-  tree_is_net (leaf i) is = absurd (omega (arith, is.gates))
-  tree_is_net (node digits a b) is = (
-    tree_gates n 0 (node digits a b),
-    tree_net n m (node digits a b) is.once is.gates is.filled,
-    tree_net_value n m digits a b is.once,
-    lines_use n (node digits a b) is.once is.gates,
-  )
-
   -- the tree of a net
   pub net_gate_tree : (gates : List Gate) (net : IsNet m n gates) → GateTree m n (net_tree m n gates net).tree
   net_gate_tree gates net =
@@ -47,10 +35,3 @@ module _ (m n : ℕ) where
   net_is_gate_tree gates net =
       let t : TreeOf m n gates = net_tree m n gates net in
       (t.tree, net_gate_tree gates net, t.same, net_uses m n gates net)
-
-  -- so one computes the table exactly if the other does
-  pub trees_are_nets : (f : ℕ → ℕ) → SomeTree m n f ↔ TreeExists m n f
-  trees_are_nets f = (
-    λ some. let net = tree_is_net some.0 some.1 in (net.0, net.1, λ p h. net.2 p ∙ some.2 p h),
-    λ some. let tree = net_is_gate_tree some.0 some.1 in (tree.0, tree.1, λ p h. sym (tree.2 p) ∙ some.2 p h),
-  )

@@ -1,12 +1,11 @@
 -- A tree is a net: its gates written out ("A's, then B's, then the group's own") with its own digits, whatever they are, follow every
 -- rule of a net sheet and have the tree's value. `NetTree` proves the converse: a net is a tree.
 -- Assumes nothing.
-use Rattle.laws.specs.Prelude.{ℕ, ◌<◌, ◌≤◌, ◌+◌, ◌-◌, suc, ◌*◌, ◌≡◌, ◌∙◌, sym, ap, refl, by_cases, true, false, Bool, List, [], ◌∷◌, ◌++◌, Memᴰ}
+use Rattle.laws.specs.Prelude.{ℕ, ◌<◌, ◌≤◌, ◌+◌, suc, ◌≡◌, ◌∙◌, sym, ap, refl, by_cases, true, false, Bool, List, [], ◌∷◌, ◌++◌, Memᴰ}
 use Rattle.laws.specs.Prelude.{zero-add, add-zero, add_assoc, dec_lt, arith, eqb, length, get_or, length-append, eq-eqb}
 use Rattle.rules.specs.Groups.Groups.{member}
-use Rattle.rules.specs.Lists.{range, any, those, with_each}
-use Rattle.rules.specs.Nets.Trees.{Tree, leaf, node, wiring_in, EachOnce, Filled, tree_value, UsesJust}
-use Rattle.rules.specs.Nets.Value.{value, gate_value, with_gates, value_with}
+use Rattle.rules.specs.Lists.{range, any, those}
+use Rattle.rules.specs.Nets.Trees.{Tree, leaf, node, wiring_in, EachOnce, Filled, UsesJust}
 use Rattle.rules.specs.Nets.Wirings.{group_of, gates_in, reference_to}
 use Rattle.rules.specs.Sheets.SheetRules.{RefersBack, Tables, EarlierUsed, IsNet}
 use Rattle.rules.specs.Sheets.Sheets.{Gate, used_by, level, levels_at}
@@ -18,7 +17,6 @@ use Rattle.laws.specs.Lists.Finds.{those_mem}
 use Rattle.laws.specs.Lists.Listed.{mem_those, those_pass}
 use Rattle.laws.specs.Lists.Counts.{count_cons, count_append, count_none, times, not_one, times_range}
 use Rattle.laws.specs.Lists.Distinct.{times_distinct}
-use Rattle.laws.specs.Lists.WithEach.{with_each_append, with_each_length, with_each_earlier, with_each_last}
 use Rattle.trees.specs.Groups.Members.{member_single, member_join, size_le}
 use Rattle.trees.specs.Trees.Wirings.{group_below, gates_in_size}
 use Rattle.trees.specs.Trees.JoinedLists.{used_append, refers_append, tables_append}
@@ -43,15 +41,15 @@ stands r xs true e = some_listed r xs (omega arith)
 stands r xs false e = count_none (eqb r) xs e
 
 -- how many gates a tree has
-abbrev gates_of : Tree → ℕ
+abbrev pub gates_of : Tree → ℕ
 gates_of t = gates_in (wiring_in t)
 
 -- the reference to a tree whose lines come after `before` others
-abbrev ref_to : ℕ → ℕ → Tree → ℕ
+abbrev pub ref_to : ℕ → ℕ → Tree → ℕ
 ref_to n before t = reference_to n before (wiring_in t)
 
 -- a gate's own line, which comes after those of its two trees
-abbrev own_line_of : ℕ → ℕ → List ℕ → Tree → Tree → Gate
+abbrev pub own_line_of : ℕ → ℕ → List ℕ → Tree → Tree → Gate
 own_line_of n before digits a b = record { left = ref_to n before a; right = ref_to n (before + gates_of a) b; digits = digits }
 
 -- A tree's gate lines, after `before` others: "A's, then B's, then the group's own."
@@ -71,13 +69,13 @@ module _ (n : ℕ) where
   lines_length before (leaf i) = refl
   lines_length before (node digits a b) = simp (length-append, lines_length before a, lines_length (before + gates_of a) b)
 
-  below_length : (before : ℕ) (a b : Tree) → length (below before a b) ≡ gates_of a + gates_of b
+  pub below_length : (before : ℕ) (a b : Tree) → length (below before a b) ≡ gates_of a + gates_of b
   below_length before a b = simp (length-append, lines_length before a, lines_length (before + gates_of a) b)
 
   -- ---- references back
 
   -- the reference to a tree is to an input, or to the last of its own lines
-  reference_back : (before : ℕ) (t : Tree) → EachOnce n (wiring_in t) → ref_to n before t < n + before + gates_of t
+  pub reference_back : (before : ℕ) (t : Tree) → EachOnce n (wiring_in t) → ref_to n before t < n + before + gates_of t
   unfolding reference_to gates_in
   reference_back before (leaf i) once = omega arith
   reference_back before (node digits a b) once = omega arith
@@ -198,46 +196,6 @@ module _ (n : ℕ) where
     abbrev pub Valued : ℕ → ℕ → List ℕ → Type 0
     Valued p before vs = (length vs ≡ n + before) × ((i : ℕ) → i < n → get_or vs i 0 ≡ level m n p i)
 
-    -- and a tree's lines add its gates' values
-    valued_after : (p before : ℕ) (vs : List ℕ) (t : Tree) → Valued p before vs → Valued p (before + gates_of t) (with_gates m vs (tree_gates n before t))
-    valued_after p before vs t valued = (
-      omega (arith, with_each_length (gate_value m) vs (tree_gates n before t), lines_length before t, valued.0),
-      λ i h. with_each_earlier (gate_value m) 0 vs (tree_gates n before t) i (omega arith) ∙ valued.1 i h,
-    )
-
-    -- the lines after a tree's do not change the value at the reference to it
-    value_kept : (p before : ℕ) (vs : List ℕ) (t : Tree) (gates : List Gate) → EachOnce n (wiring_in t) → Valued p before vs
-        → get_or (with_gates m (with_gates m vs (tree_gates n before t)) gates) (ref_to n before t) 0
-        ≡ get_or (with_gates m vs (tree_gates n before t)) (ref_to n before t) 0
-    value_kept p before vs t gates once valued =
-        let after = valued_after p before vs t valued in
-        let ref = reference_back before t once in
-        with_each_earlier (gate_value m) 0 (with_gates m vs (tree_gates n before t)) gates (ref_to n before t) (omega arith)
-
-    -- a gate's value, from those at the references to its two trees
-    value_of_gate : (before : ℕ) (vs : List ℕ) (digits : List ℕ) (a b : Tree) (x y : ℕ) → length vs ≡ n + before →
-        let values = with_gates m (with_gates m vs (tree_gates n before a)) (tree_gates n (before + gates_of a) b) in
-        get_or values (ref_to n before a) 0 ≡ x → get_or values (ref_to n (before + gates_of a) b) 0 ≡ y
-        → get_or (with_gates m vs (tree_gates n before (node digits a b))) (ref_to n before (node digits a b)) 0 ≡ get_or digits (x * m + y) 0
-    unfolding tree_gates reference_to gate_value
-    value_of_gate before vs digits a b x y e left right =
-        let own = n + before + gates_of a + gates_of b in
-        with_each_last (gate_value m) 0 vs (below before a b) (own_line_of n before digits a b) own (omega (arith, below_length before a b))
-        ∙ rw (with_each_append, left, right)
-
-    -- after a tree's lines, the value at the reference to it is the tree's
-    value_at_reference : (p before : ℕ) (vs : List ℕ) (t : Tree) → EachOnce n (wiring_in t) → Valued p before vs
-        → get_or (with_gates m vs (tree_gates n before t)) (ref_to n before t) 0 ≡ tree_value m n t p
-    unfolding tree_gates with_each reference_to tree_value
-    value_at_reference p before vs (leaf i) once valued = valued.1 i once
-    value_at_reference p before vs (node digits a b) once valued =
-        let mid = before + gates_of a in
-        let after = valued_after p before vs a valued in
-        let kept = value_kept p before vs a (tree_gates n mid b) once.1 valued in
-        let left = kept ∙ value_at_reference p before vs a once.1 valued in
-        let right = value_at_reference p mid (with_gates m vs (tree_gates n before a)) b once.2 after in
-        value_of_gate before vs digits a b (tree_value m n a p) (tree_value m n b p) valued.0 left right
-
     -- before any line these are the inputs' levels
     pub levels_valued : (p : ℕ) → Valued p 0 (levels_at m n p)
     unfolding levels_at
@@ -245,14 +203,3 @@ module _ (n : ℕ) where
       levels_length m n p ∙ sym (add-zero n),
       λ i h. map_range_at (level m n p) 0 n i 0 h ∙ ap (level m n p) (zero-add i),
     )
-
-    -- the reference to the whole tree is to the last line
-    last_reference : (digits : List ℕ) (a b : Tree) → n + length (tree_gates n 0 (node digits a b)) - 1 ≡ ref_to n 0 (node digits a b)
-    unfolding reference_to gates_in
-    last_reference digits a b = rw (lines_length 0 (node digits a b)) (omega arith)
-
-    pub tree_net_value : (digits : List ℕ) (a b : Tree) → EachOnce n (wiring_in (node digits a b)) → (p : ℕ)
-        → value m n (tree_gates n 0 (node digits a b)) p ≡ tree_value m n (node digits a b) p
-    tree_net_value digits a b once p =
-        unfold value value_with in
-        rw (last_reference digits a b) (value_at_reference p 0 (levels_at m n p) (node digits a b) once (levels_valued p))

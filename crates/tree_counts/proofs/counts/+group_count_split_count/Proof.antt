@@ -10,7 +10,7 @@ use Rattle.rules.specs.Nets.Wirings.{first_input}
 use Rattle.rules.specs.Nets.Family.{split_count}
 use Rattle.trees.specs.Groups.Members.{size_pos}
 use Rattle.trees.specs.Families.FamilyCounts.{group_trees, split_counted, no_parts_count, count_single}
-use Rattle.trees.specs.Families.FamilyBounds.{group_trees_fit}
+use Rattle.trees.proofs.Families.FamilyBounds.{group_trees_fit}
 use Rattle.radix.specs.Parts.{PartOf, Next}
 use Rattle.radix.specs.Widths.{groups_end}
 use Rattle.tree_counts.specs.Counts.{CountsKnown, Countable, Splittable, splittable_sizes, one_kept, smaller, split_none, split_fits}

@@ -1,4 +1,4 @@
--- A tree's own gate lines give that tree back; so a wiring's links, filled, are the lines of the class rule's tree.
+-- The theorems of Trees/LinesTree that rest on a definition which a must-fail edit changes: they stand here, so that the edit leaves specs/ readable.
 -- Assumes nothing.
 use Rattle.laws.specs.Prelude.{ℕ, ◌<◌, ◌+◌, ◌-◌, ◌≡◌, ◌∙◌, true, List, ◌++◌, arith, length, length-append}
 use Rattle.rules.specs.Lists.{with_each}
@@ -9,7 +9,8 @@ use Rattle.rules.specs.Sheets.Sheets.{Gate}
 use Rattle.trees.specs.Trees.Trees.{fill}
 use Rattle.laws.specs.Lists.WithEach.{with_each_append, with_each_length, with_each_earlier, with_each_last}
 use Rattle.trees.specs.Trees.Forest.{tree_at, joined_tree, with_trees, input_trees, inputs_length, input_at}
-use Rattle.trees.specs.Trees.GateLists.{reference_below, list_lines}
+use Rattle.trees.specs.Trees.GateLists.{reference_below}
+use Rattle.trees.proofs.Trees.GateLists.{list_lines}
 use Rattle.trees.specs.Trees.TreeLists.{tree_gates, lines_length}
 use Rattle.trees.specs.Filling.Fillings.{filled_list}
 

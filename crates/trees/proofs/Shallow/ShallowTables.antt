@@ -1,5 +1,4 @@
--- The shallow net of a table under its header. If the whole group has mark 2, it follows a net sheet's rules, has exactly the table, and "Every
--- other tree computing that table has at least as many layers"; its sheet is as long as the settled net's.
+-- The theorems of Shallow/ShallowTables that rest on a definition which a must-fail edit changes: they stand here, so that the edit leaves specs/ readable.
 -- Assumes nothing.
 use Rattle.laws.specs.Prelude.{ℕ, ◌<◌, ◌≤◌, ◌^◌, ◌≡◌, sym, refl, subst⁻¹, List, length}
 use Rattle.rules.specs.Calls.Answers.{ink_in}
@@ -13,13 +12,14 @@ use Rattle.rules.specs.Sheets.SheetRules.{IsNet, NetRules, TableRules, FullTable
 use Rattle.rules.specs.Sheets.Sheets.{Gate, Net, Table}
 use Rattle.rules.specs.Nets.Layers.{layers}
 use Rattle.laws.specs.Calls.Settling.{WholeTwo}
-use Rattle.trees.specs.Trees.Existence.{settled_net_lem, settled_leaves}
+use Rattle.trees.proofs.Trees.Existence.{settled_net_lem, settled_leaves}
 use Rattle.trees.specs.Trees.Uniqueness.{table_is, table_at}
-use Rattle.trees.specs.Trees.NetTables.{levels_pos, inputs_several, kept_table, net_full, net_whole_two}
+use Rattle.trees.specs.Trees.NetTables.{levels_pos, inputs_several, kept_table, net_full}
+use Rattle.trees.proofs.Trees.NetTables.{net_whole_two}
 use Rattle.trees.specs.Trees.UsedOnce.{same_inputs}
 use Rattle.trees.specs.Trees.EquallyLong.{equally_long}
 use Rattle.trees.specs.Shallow.Depths.{depth}
-use Rattle.trees.specs.Shallow.ShallowNet.{shallow_net_lem, shallow_leaves, shallowest_net, shallowest_tree}
+use Rattle.trees.proofs.Shallow.ShallowNet.{shallow_net_lem, shallow_leaves, shallowest_net, shallowest_tree}
 
 module _ (t : Table) (kept : TableRules t) (full : FullTable t) (two : WholeTwo t) where
   pos : 0 < t.header.levels

@@ -1,5 +1,4 @@
--- The shallow net: if the whole group has mark 2, it is a net with the table, on the same leaves as the settled net, and "Every other tree computing
--- that table has at least as many layers", whatever its leaves.
+-- The theorems of Shallow/ShallowNet that rest on a definition which a must-fail edit changes: they stand here, so that the edit leaves specs/ readable.
 -- Assumes nothing.
 use Rattle.laws.specs.Prelude.{ℕ, ◌<◌, ◌≤◌, ◌^◌, ◌≡◌, ◌∙◌, sym, by_cases, List, dec_lt, arith, length}
 use Rattle.rules.specs.Groups.Groups.{whole_group}
@@ -18,14 +17,16 @@ use Rattle.trees.specs.Trees.NetTree.{net_tree}
 use Rattle.trees.specs.Groups.MarkRule.{marked}
 use Rattle.trees.specs.Leaves.Mattering.{Holding}
 use Rattle.trees.specs.Leaves.LeafGroup.{leaves_below, leaves_hold, leaves_size, leaves_several, leaves_some}
-use Rattle.trees.specs.Leaves.CutWirings.{cut, leaves_marked}
-use Rattle.trees.specs.Trees.Existence.{several_gates, tree_few, computes_holds, filled_computes, filled_leaves}
+use Rattle.trees.proofs.Leaves.CutWirings.{cut, leaves_marked}
+use Rattle.trees.specs.Trees.Existence.{several_gates, tree_few, computes_holds}
+use Rattle.trees.proofs.Trees.Existence.{filled_computes, filled_leaves}
 use Rattle.trees.specs.Trees.TreeExistence.{net_gate_tree}
 use Rattle.trees.specs.Leaves.FewestGates.{leaves_idle}
 use Rattle.trees.specs.Shallow.Depths.{depth}
-use Rattle.trees.specs.Shallow.Layers.{net_layers_lem, filled_layers}
+use Rattle.trees.proofs.Shallow.Layers.{net_layers_lem, filled_layers}
 use Rattle.trees.specs.Shallow.FewestLayers.{fewest, fewest_small}
-use Rattle.trees.specs.Shallow.Shallow.{depth_at_least, shallow_wiring_of, shallow_depth}
+use Rattle.trees.specs.Shallow.Shallow.{shallow_wiring_of}
+use Rattle.trees.proofs.Shallow.Shallow.{depth_at_least, shallow_depth}
 
 -- a wiring with a gate has a layer
 depth_some : (w : Wiring) → 0 < gates_in w → 0 < depth w

@@ -1,0 +1,3 @@
+pub mod CutWirings
+pub mod FewestGates
+pub mod IdleMarks

@@ -1,0 +1,4 @@
+pub mod Layers
+pub mod Shallow
+pub mod ShallowNet
+pub mod ShallowTables
