@@ -1,0 +1,12 @@
+-- `accepted::both::read_both` meets its contract: the refusals of the net sheet, or the result of reading the table sheet.
+-- Assumes nothing.
+use borrow.Author.Rules.{rules}
+use Rattle.accepted.specs.Taken.{net_refused_lem, net_taken}
+use Rattle.accepted.specs.Both.{both_net_refused}
+use Rattle.accepted.proofs.both.read_both.Goals as goal
+
+pub read_beside-requires : goal.read_beside-requires
+read_beside-requires c = (net_taken _ _ c.read_net-read.ensures c.in-Accepted.is, search rules)
+
+pub returns-in-Refused : goal.returns-in-Refused
+returns-in-Refused c = both_net_refused _ _ _ _ _ _ _ (net_refused_lem _ _ c.read_net-read.ensures _ _ c.in-Refused.is)
