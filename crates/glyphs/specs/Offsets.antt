@@ -82,7 +82,7 @@ moved x (negsuc k) h = go (dec_le (suc k) x)
 
 -- an element of a slice, from its bits
 pub element : (z : ℤ) → mag z < 2 ^ 7 → to_z w8 (of_z w8 z) ≡ z
-element z small = to_z-of_z (record { sfits = small })
+element z small = to_z-of_z {w = w8} (record { sfits = small })
 
 module _ (z : ℤ) (fits : SFits w8 z) where
   bits_are : (b : ℕ) → of_z w8 z ≡ b → z ≡ to_z w8 b
