@@ -3,7 +3,7 @@
 use Rattle.laws.specs.Prelude.{ℕ, ◌<◌, ◌≤◌, ◌+◌, ◌-◌, ◌^◌, ◌≡◌, ◌∙◌, refl, subst, true, false, Bool, List, arith, length, get_or, set, length-set, ◌≢◌}
 use Rattle.laws.specs.Prelude.{get_or-set_same, get_or-set_other, eqb, eqb-true, eqb-false}
 use Rattle.rules.specs.Limits.{most_cells}
-use Rattle.loose_sheets.specs.Fast.Frame.{most_laid, frame_length, PlaceAt, SpaceAt, LevelAt, LooseLaid, laid_none, laid_space, laid_level, Framed}
+use Rattle.loose_sheets.specs.Fast.Frame.{most_laid, frame_length, PlaceAt, LevelAt, LooseLaid, laid_none, laid_space, laid_level, Framed}
 
 -- no place has a weight
 pub record Unlaid (frame : List ℕ) : Type 0 where
