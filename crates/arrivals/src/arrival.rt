@@ -5,14 +5,14 @@ ghost use Rattle.rules.specs.Nets.Arrivals.{quarter};
 ghost use Rattle.arrivals.specs.Ends.{timed, ends_in};
 
 // A fixed time, or an earliest and a latest.
-#[derive(Drop)]
+#[derive(Clone, Copy)]
 pub enum Arrival {
     Fixed(f64),
     Between { earliest: f64, latest: f64 },
 }
 
 // The earliest and the latest time at which a wire settles.
-#[derive(Drop)]
+#[derive(Clone, Copy)]
 pub struct Ends {
     pub earliest: f64,
     pub latest: f64,

@@ -1,0 +1,14 @@
+-- `arrivals::arrival::arrival_of` meets its contract: the test distinguishes the two cases.
+-- Assumes nothing.
+use Rattle.laws.specs.Prelude.{ap, ap₂, eq-eqb, ne_eqb}
+use Rattle.rules.specs.Sheets.ArrivalSheet.{arrival_of}
+use Rattle.arrivals.specs.declared.arrival.Arrival.TheVariants.{Fixed, Between}
+use Rattle.arrivals.proofs.arrival.arrival_of.Goals as goal
+
+pub returns-then-to-from : goal.returns-then-to-from
+unfolding arrival_of
+returns-then-to-from c = rw (eq-eqb _ _ c.if-to-from.true, arrival_of) (ap Fixed c.microseconds-earliest.ensures)
+
+pub returns : goal.returns
+unfolding arrival_of
+returns c = rw (ne_eqb _ _ c.if-to-from.false, arrival_of) (ap₂ Between c.microseconds-earliest.ensures c.microseconds-latest.ensures)
