@@ -40,8 +40,8 @@ class Fn:
 
     def canon(self, i):
         """The place itself, for one of its points before a read."""
-        if i is None:
-            return None
+        if i is None or i == "?":
+            return i
         return self.index.get(norm(re.sub(r"-unread(-\d+)?$", "", self.places[i][0])), i)
 
     def parent(self, i):
@@ -196,7 +196,7 @@ class Turn:
         m = re.match(r"^\(?" + PLACE + r"(?:\s.*)?$", ty.strip())
         if not m:
             return None
-        return self.fn.index.get(norm(m[1]))
+        return self.fn.index.get(norm(m[1]), "?")
 
     # ---- record expressions
     def atom(self, T, i, env):
@@ -227,10 +227,10 @@ class Turn:
 
     def climb(self, j, root, place, fields):
         while fields and fields[0] == "before":
-            place = self.fn.parent(place)
+            place = "?" if place == "?" else self.fn.parent(place)
             fields = fields[1:]
             if place is None:
-                return None
+                place = "?"
         return j, root, place, fields
 
     def skip(self, T, i):
@@ -283,12 +283,14 @@ class Turn:
 
     def find(self, top, place, f):
         """The place of the step named f: here, else the nearest above, else below on the way to the root."""
-        q = place
-        while q is not None:
+        q = top if place == "?" else place
+        while q is not None and q != "?":
             if norm(self.fn.places[q][2][0]) == norm(f):
                 return q
             q = self.fn.parent(q)
         q, best = top, None
+        if top == "?":
+            return None
         while q is not None and q != place:
             if norm(self.fn.places[q][2][0]) == norm(f):
                 best = q
@@ -305,12 +307,12 @@ class Turn:
         return ".".join([name, self.fn.places[q][2][1]] + self.step_rest(q, rest))
 
     def write(self, root, place, fields, need):
-        p = self.fn.places[place]
+        p = self.fn.places[place] if place != "?" else ["?", None, ["?", "?"]]
         if not fields:
             if place == root[1]:
                 return root[0]
-            report.append(f"{self.path}: bare record above {root[0]} in {need}: {self.fn.newname[place]}")
-            return f"{root[0]}.{self.fn.newname[place]}"
+            report.append(f"{self.path}: bare record above {root[0]} in {need}: {p[0]}")
+            return f"{root[0]}"
         f, rest = fields[0], fields[1:]
         q = self.find(root[1], place, f)
         if q is not None:
@@ -355,7 +357,7 @@ class Turn:
             if t in self.macros:
                 j = self.skip(T, i + 1)
                 r = self.atom(T, j, env)
-                if r is not None and not r[3] and self.fn.canon(r[2]) == self.fn.canon(self.macros[t]["place"]):
+                if r is not None and not r[3]:
                     out.append(t)
                     i = r[0]
                     continue
@@ -374,10 +376,15 @@ class Turn:
                 if j < len(T) and T[j] in self.macros:
                     k = self.skip(T, j + 1)
                     r = self.atom(T, k, env)
-                    if r is not None and not r[3] and self.fn.canon(r[2]) == self.fn.canon(self.macros[T[j]]["place"]) and r[0] < len(T) and T[r[0]] == ")":
+                    if r is not None and not r[3] and r[0] < len(T) and T[r[0]] == ")":
                         out.append(T[j])
                         i = r[0] + 1
                         continue
+            j = self.skip(T, i + 1)
+            if t in env and j < len(T) and T[j] == "=":
+                out.append(t)
+                i += 1
+                continue
             r = self.expr(T, i, env)
             if r is not None:
                 j, root, place, fields = r
