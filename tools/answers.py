@@ -345,6 +345,11 @@ class Turn:
                                 i = self.skip(T, e2 + 1)
                                 continue
                             q = self.find(root[1], place, fields[0])
+                            if q is not None and len(fields) > 2 and fields[1] in ("kept", "last", "new", "auto") and set(fields[2:]) == {"1"} \
+                                    and self.fn.places[q][3] in self.fn.params:
+                                env[name] = ("tup", root, q, fields[1], len(fields) - 2)
+                                i = self.skip(T, e2 + 1)
+                                continue
                             if len(fields) == 1 and q is not None:
                                 env[name] = ("step", root, q)
                             else:
@@ -392,6 +397,11 @@ class Turn:
                 i = j
                 continue
             parts = t.split(".")
+            if parts[0] in env and env[parts[0]][0] == "tup" and len(parts) > 1:
+                _, root, q, kind, n = env[parts[0]]
+                out.append(self.at_step(root[0], q, [kind] + ["1"] * n + parts[1:]))
+                i += 1
+                continue
             if parts[0] in env and env[parts[0]][0] == "step" and len(parts) > 1 and not t.endswith("."):
                 out.append(".".join([parts[0]] + self.step_rest(env[parts[0]][2], parts[1:])))
                 i += 1
