@@ -8,7 +8,7 @@ use radix::limits::{MOST_DIGITS, MOST_GATES, MOST_INPUTS};
 pub const MOST_WIRES: usize = MOST_INPUTS + MOST_GATES;
 
 // A sheet's first three lines. Names stay in the sheet: name i is the `lens[i]` bytes that start at `starts[i]`.
-#[derive(Drop)]
+#[derive(Clone, Copy)]
 pub struct Header {
     pub levels: usize,
     pub inputs: usize,

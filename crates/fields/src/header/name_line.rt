@@ -13,7 +13,7 @@ use crate::steps::{Layout, Step};
 use nets::forms::{Header, no_names};
 
 // The result of reading line 3. The header is complete if the step is `On`.
-#[derive(Drop)]
+#[derive(Clone, Copy)]
 pub struct HeaderRead {
     pub step: Step,
     pub header: Header,
