@@ -18,7 +18,7 @@ report = []
 
 
 def norm(s):
-    return s.replace("-", "_")
+    return re.sub(r"_(lem|of)$", "", s.replace("-", "_").lower()) if s.endswith(("_lem",)) else s.replace("-", "_").lower()
 
 
 class Fn:
@@ -189,6 +189,7 @@ class Turn:
         self.navs = {}      # name -> (from place, to place)
         self.macros = {}    # name -> decl, for lemmas over places that no goal is asked at
         self.members = set()
+        self.used = set()
         self.inner = {}
         self.rename = {}
 
@@ -363,15 +364,14 @@ class Turn:
                 j = self.skip(T, i + 1)
                 r = self.atom(T, j, env)
                 if r is not None and not r[3]:
+                    self.used.add(t)
                     out.append(t)
                     i = r[0]
                     continue
-                if t not in self.members:
-                    report.append(f"{self.path}: use of {t} not understood: {''.join(T[i:i + 8])}")
                 out.append(t)
                 i += 1
                 continue
-            if t.split(".")[0] in self.macros and "." in t and not t.endswith("."):
+            if t.split(".")[0] in self.macros and t.split(".")[0] not in env and "." in t and not t.endswith("."):
                 out.append(t)
                 i += 1
                 continue
@@ -382,6 +382,7 @@ class Turn:
                     k = self.skip(T, j + 1)
                     r = self.atom(T, k, env)
                     if r is not None and not r[3] and r[0] < len(T) and T[r[0]] == ")":
+                        self.used.add(T[j])
                         out.append(T[j])
                         i = r[0] + 1
                         continue
@@ -615,14 +616,34 @@ def one(crate, path, folder, proof, fn, module):
         turn.macros[d.name]["first"] = turn.macros[d.name]["names"].pop(0)
     rest = more
 
+    def clause_env(pats, ps):
+        """Names of the record parameters of a clause."""
+        explicit = [q for q in ps if not q[2]]
+        toks = [p for p in pats.split() if not p.startswith("{")]
+        env = {}
+        for (n, ty, imp), pat in zip(explicit, toks):
+            pl = turn.place_of(ty)
+            if pl is not None:
+                env[pat] = ("rec", (pat, pl), pl)
+        return env
+
     def words(text):
         return {x.split(".")[0] for x in TOK.findall(text)}
 
-    def needed_macros(text, got):
-        for w in sorted(words(text) & set(turn.macros)):
-            if w not in got:
+    def needed_macros(text, got, env, inside=()):
+        turn.used = set()
+        n = len(report)
+        turn.text(text, env, None)
+        del report[n:]
+        for w in sorted(turn.used | (words(text) & set(inside))):
+            if w not in got and w in turn.macros:
                 m = turn.macros[w]
-                needed_macros(m["sig"] + " " + m["body"], got)
+                var = list(env)[0]
+                root = env[var][1]
+                e2 = {x: ("rec", root, m["place"]) for x in (m["param"], m.get("first")) if x}
+                if m["members"]:
+                    e2.update({x: ("rec", root, q) for x, q in turn.inner.items()})
+                needed_macros(m["sig"] + " " + m["body"], got, e2 or env, m["members"])
                 got.append(w)
         return got
 
@@ -630,7 +651,8 @@ def one(crate, path, folder, proof, fn, module):
         """The typed lets for the lemmas that a body uses."""
         lines = []
         unf = []
-        for w in needed_macros(body, []):
+        got = needed_macros(body, [], {var: ("rec", (var, pl), pl)})
+        for w in got:
             m = turn.macros[w]
             envs = {}
             if m["param"]:
@@ -784,13 +806,33 @@ def one(crate, path, folder, proof, fn, module):
                 got.append(n)
         return f"{m[1] or ''}use {m[2]}.{{{', '.join(got)}}}" if got else None
 
+    moved_names = []
+
     def emit(name, items, link):
         body = "\n\n".join((c + "\n" if c else "") + t for c, t in items)
-        us = [x for x in (needed(u, body) for u in keep) if x]
+        us = [x for x in (needed(u, body) for u in keep if not (name == "Invariants.antt" and ".Invariants." in u)) if x]
         us.append(f"use {base}.{link} as goal")
         head = top if top else ""
         open(os.path.join(folder, name), "w", encoding="utf-8").write((head + "\n" if head else "") + "\n".join(us) + "\n\n" + body + "\n")
 
+    # definitions that the invariants use stand beside them
+    moved = []
+    inv_text = " ".join(x for _, x in out_inv)
+    again = bool(out_inv)
+    while again:
+        again = False
+        for item in list(out_ans):
+            m = re.match(r"^((?:abbrev |unfoldable |pub )*)([^\s:]+) : (?!goal\.)", item[1])
+            if m and m[2] in words(inv_text) and "goal." not in item[1]:
+                out_ans.remove(item)
+                mods = m[1] if "pub" in m[1] else m[1] + "pub "
+                moved.insert(0, (item[0], mods + item[1][len(m[1]):]))
+                moved_names.append(m[2])
+                inv_text += " " + item[1]
+                again = True
+    if moved:
+        keep.append(f"use {base}.Invariants.{{{', '.join(moved_names)}}}")
+    out_inv = moved + out_inv
     os.remove(proof)
     if out_inv:
         emit("Invariants.antt", out_inv, "Given")
