@@ -50,7 +50,7 @@ class Fn:
 
     def need(self, old):
         o = norm(old)
-        for cand in (o, re.sub(r"^overflow_", "", o)):
+        for cand in (o, re.sub(r"^(overflow|nonzero)_", "", o)):
             for k, (a, b) in enumerate(self.needs):
                 if norm(a) == cand:
                     return k
@@ -76,7 +76,7 @@ def chunks(text):
     """Top-level chunks: each starts at a line that is not indented."""
     out, cur = [], []
     for line in text.split("\n"):
-        if line and not line[0].isspace() and cur:
+        if line and not line[0].isspace() and line[0] not in ")]}" and cur:
             out.append("\n".join(cur))
             cur = []
         cur.append(line)
@@ -253,7 +253,7 @@ class Turn:
         out = []
         k = 0
         if rest:
-            f0 = {"taken": "true", "left": "false"}.get(rest[0], rest[0])
+            f0 = {"taken": "true", "left": "false"}.get(rest[0], rest[0]) if re.match(r"if|.*-test$", p[2][0]) else rest[0]
             for a, b in p[4]:
                 if norm(a) == norm(f0) or norm(a) == norm(rest[0]):
                     return [b] + rest[1:]
@@ -261,7 +261,7 @@ class Turn:
             f = rest[k]
             if f == "taken":
                 f = "true"
-            elif f == "left":
+            elif f == "left" and k == 0 and (p[2][0].startswith("if") or p[2][0].endswith("-test")):
                 f = "false"
             elif f == "inv" and k == 0:
                 f = "invariant"
@@ -426,7 +426,9 @@ def with_lets(lets, body):
     lets = [re.sub(r"not-false _ ([^\s(){},;]+)\.false-raw", r"\1.false", x) for x in lets]
     if not lets:
         return body
-    return "    " + "\n    ".join(lets) + "\n" + (body if body.startswith(" ") else "    " + body)
+    if not body.startswith(" "):
+        body = "    " + "\n".join(("    " + x if k and x.strip() else x) for k, x in enumerate(body.split("\n")))
+    return "    " + "\n    ".join(lets) + "\n" + body
 
 
 def main():
@@ -482,6 +484,21 @@ def spec_args(body):
 def one(crate, path, folder, proof, fn, module):
     text = open(proof, encoding="utf-8").read()
     top, uses, decls = parse(text)
+    alias = {}
+    for d in decls:
+        if d.name and d.sig.strip() == "Type 0" and d.clauses:
+            _, b = split_clause(d.clauses[0])
+            if re.match(r"^" + PLACE, b.strip()):
+                alias[d.name] = b.strip()
+    if alias:
+        def real(s):
+            for a in sorted(alias, key=lambda z: -len(z)):
+                s = re.sub(r"(?<![^\s()])" + re.escape(a) + r"(?![^\s()])", lambda _: alias[a], s)
+            return s
+        decls = [d for d in decls if d.name not in alias]
+        for d in decls:
+            d.sig = real(d.sig)
+            d.raw = re.sub(r"(?m)(^module _ .*$|^  .* : .*$)", lambda m: real(m[0]), d.raw)
     turn = Turn(fn, path)
     invariants, answers = [], []
     # navigation
@@ -547,6 +564,7 @@ def one(crate, path, folder, proof, fn, module):
                         need_of[a] = new
             for a, k in known.items():
                 need_of[a] = fn.needs[k][1]
+    gone = set()
     for d in rest:
         mm = d.name and re.match(r"^tie\.Need-(\S+)", d.sig)
         if mm and d.name not in need_of:
@@ -554,7 +572,9 @@ def one(crate, path, folder, proof, fn, module):
             if k is not None:
                 need_of[d.name] = fn.needs[k][1]
             else:
-                report.append(f"{path}: no goal for {d.name} : {d.sig}")
+                if "same-length" not in d.sig and "same_length" not in d.sig:
+                    report.append(f"{path}: no goal for {d.name} : {d.sig}")
+                gone.add(d.name)
     asked = {b: a for (a0, b), (_, a) in zip(fn.needs, fn.asked)}
     turn.rename = {a: b for a, b in need_of.items() if a != b}
     lets = set()
@@ -676,6 +696,10 @@ def one(crate, path, folder, proof, fn, module):
 
     out_inv, out_ans, helpers = [], [], []
     for d in rest:
+        if d.name in gone:
+            continue
+        if not d.name and d.raw.strip() in (")", "]", "}"):
+            continue
         if not d.name:
             out_ans.append((d.comment, d.raw))
             if "tie." in d.raw:
