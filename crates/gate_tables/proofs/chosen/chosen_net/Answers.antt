@@ -30,8 +30,8 @@ choose-wiring-requires c =
 pub fill-requires : goal.fill-requires
 fill-requires c =
     let found : ℕ → ℕ = split_by c.args.choice c.args.n c.args.marks.now c.args.fewest.now in
-    let chosen : Chosen c.args.n found (leaves_of c.args.m c.args.n (ink_in c.args.cells.now)) c.choose-wiring.result = 
-        subst (λ (g : ℕ). Chosen c.args.n found g c.choose-wiring.result) c.requires.5 c.choose-wiring.ensures in
+    let chosen : Chosen c.args.n found (leaves_of c.args.m c.args.n (ink_in c.args.cells.now)) c.choose-wiring.result =
+    subst (λ (g : ℕ). Chosen c.args.n found g c.choose-wiring.result) c.requires.5 c.choose-wiring.ensures in
     let in_bounds : Sized c.args.m c.args.n c.args.cells.now = sized_cells c.args.m c.args.n c.args.cells.now c.requires.0 c.requires.1 in
     let layers : let a = c.args in LayersKnown a.choice a.n a.marks.now (leaves_of a.m a.n (ink_in a.cells.now)) a.fewest.now = let a = c.args in subst (λ (g : ℕ). LayersKnown a.choice a.n a.marks.now g a.fewest.now) c.requires.5 c.requires.6 in
     let a = c.args in
@@ -45,8 +45,8 @@ fill-requires c =
 pub returns : goal.returns
 returns c =
     let found : ℕ → ℕ = split_by c.args.choice c.args.n c.args.marks.now c.args.fewest.now in
-    let chosen : Chosen c.args.n found (leaves_of c.args.m c.args.n (ink_in c.args.cells.now)) c.choose-wiring.result = 
-        subst (λ (g : ℕ). Chosen c.args.n found g c.choose-wiring.result) c.requires.5 c.choose-wiring.ensures in
+    let chosen : Chosen c.args.n found (leaves_of c.args.m c.args.n (ink_in c.args.cells.now)) c.choose-wiring.result =
+    subst (λ (g : ℕ). Chosen c.args.n found g c.choose-wiring.result) c.requires.5 c.choose-wiring.ensures in
     let layers : let a = c.args in LayersKnown a.choice a.n a.marks.now (leaves_of a.m a.n (ink_in a.cells.now)) a.fewest.now = let a = c.args in subst (λ (g : ℕ). LayersKnown a.choice a.n a.marks.now g a.fewest.now) c.requires.5 c.requires.6 in
     let a = c.args in
     chosen_made a.choice a.m a.n (ink_in a.cells.now) c.requires.0 c.requires.4 a.marks.now a.fewest.now c.requires.3 layers

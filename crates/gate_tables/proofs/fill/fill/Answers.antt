@@ -6,13 +6,12 @@ use Rattle.gate_tables.specs.Filled.{fillable_blank, filled_all}
 use Rattle.gate_tables.proofs.fill.fill.Goals as goal
 
 pub fill_while_few-requires : goal.fill_while_few-requires
-fill_while_few-requires c =
-    (
-      c.requires.0,
-      c.requires.1,
-      fillable_blank c.args.m c.args.n c.requires.0.some (ink_in c.args.cells.now)
-          (input_groups c.args.n) (links_in c.args.wiring) c.requires.2,
-    )
+fill_while_few-requires c = (
+  c.requires.0,
+  c.requires.1,
+  fillable_blank c.args.m c.args.n c.requires.0.some (ink_in c.args.cells.now)
+      (input_groups c.args.n) (links_in c.args.wiring) c.requires.2,
+)
 
 pub returns : goal.returns
 returns c =

@@ -57,8 +57,8 @@ gate_classes-classes-requires c =
     let few : (n + k < most_wires) × (k < most_gates) = (omega (arith, c.requires.0.inputs, c.requires.1, c.loop-k-test.true), omega (arith, c.requires.0.inputs, c.requires.1, c.loop-k-test.true)) in
     let wires : List ℕ = c.loop-k.wires in
     let rows : WireRows m n f (groups_of n links) (n + k) wires = c.loop-k.invariant.4 in
-    let room : (r : ℕ) → r < n + k → r * 11 + 2 + size_at wires r ≤ length wires = λ r h. 
-        omega (arith, size_few m n c.requires.0.some f (groups_of n links) (n + k) wires rows r h, c.requires.0.levels, few.0, c.loop-k.invariant.2) in
+    let room : (r : ℕ) → r < n + k → r * 11 + 2 + size_at wires r ≤ length wires = λ r h.
+    omega (arith, size_few m n c.requires.0.some f (groups_of n links) (n + k) wires rows r h, c.requires.0.levels, few.0, c.loop-k.invariant.2) in
     let a : ℕ = get_or (groups_of n links) next.left 0 in
     let b : ℕ = get_or (groups_of n links) next.right 0 in
     let pair : Parts m n (λ _. 0) a b = joins m n (λ _. 0) f links c.requires.3 k k< next is_next in
@@ -150,12 +150,11 @@ put_row-requires c =
     let passed : Passed m n f (eqb (k + 1) c.args.wiring.gates) a b r firsts table = passed_by (rows next.left refers.0).0 (rows next.right refers.1).0 c.gate_classes-classes.ensures in
     let few_joint : r ≤ m → Few m n f (a + b) = λ low. omega (arith, (passed.listed low).count) in
     let sides : SampleSides m n f a b = record { pair = pair; few_a = (rows next.left refers.0).1.few; few_b = (rows next.right refers.1).1.few } in
-    let front : (low : r ≤ m) → Front (samples m n f (a + b)) r firsts = λ low. 
-        subst⁻¹ (λ (xs : List ℕ). Front xs r firsts)
-        (samples_several m n f (a + b) below
-        (join_several m n c.requires.0.some f a b (sides_parts sides (few_joint low))))
-        (passed.listed low) in
-    (
+    let front : (low : r ≤ m) → Front (samples m n f (a + b)) r firsts = λ low.
+    subst⁻¹ (λ (xs : List ℕ). Front xs r firsts)
+    (samples_several m n f (a + b) below
+    (join_several m n c.requires.0.some f a b (sides_parts sides (few_joint low))))
+    (passed.listed low) in (
       omega (arith, c.if-m-classes.false, c.requires.0.levels),
       fits_in (front c.if-m-classes.false),
       omega (arith, few.0, c.loop-k.invariant.2, c.if-m-classes.false, c.requires.0.levels),
@@ -185,20 +184,20 @@ loop-k-preserved c =
     let going : Going m n f links k c.loop-k.net = c.loop-k.invariant.3 in
     let long_ys : length c.gate_classes-classes.new.ys ≡ length c.args.ys.now = c.gate_classes-classes.auto.ys ∙ c.loop-k.invariant.1 in
     let own : get_or (groups_of n links) (n + k) 0 ≡ a + b = own_group m n (λ _. 0) f links c.requires.3 k k< next is_next in
-    let sum_is : c.group_of.result + c.group_of-in-loop-k.result ≡ a + b = 
-        ap₂ (λ (x y : ℕ). x + y) (c.group_of.ensures ∙ (rows next.left refers.0).0)
-        (c.group_of-in-loop-k.ensures ∙ (rows next.right refers.1).0) in
+    let sum_is : c.group_of.result + c.group_of-in-loop-k.result ≡ a + b =
+    ap₂ (λ (x y : ℕ). x + y) (c.group_of.ensures ∙ (rows next.left refers.0).0)
+    (c.group_of-in-loop-k.ensures ∙ (rows next.right refers.1).0) in
     let pair : Parts m n (λ _. 0) a b = joins m n (λ _. 0) f links c.requires.3 k k< next is_next in
     let below : a + b < 2 ^ n = join_small m n c.requires.0.some (λ _. 0) a b pair in
     let sides : SampleSides m n f a b = record { pair = pair; few_a = (rows next.left refers.0).1.few; few_b = (rows next.right refers.1).1.few } in
-    let front : (low : r ≤ m) → Front (samples m n f (a + b)) r firsts = λ low. 
-        subst⁻¹ (λ (xs : List ℕ). Front xs r firsts)
-        (samples_several m n f (a + b) below
-        (join_several m n c.requires.0.some f a b (sides_parts sides (few_joint low))))
-        (passed.listed low) in
-    let wire : (low : r ≤ m) → Wire m n f (get_or (groups_of n links) (n + k) 0) r (λ i. get_or firsts i 0) = λ low. 
-        subst⁻¹ (λ (g : ℕ). Wire m n f g r (λ i. get_or firsts i 0)) own
-        (gate_wire m n c.requires.0.some f (a + b) r firsts (few_joint low) below (front low)) in
+    let front : (low : r ≤ m) → Front (samples m n f (a + b)) r firsts = λ low.
+    subst⁻¹ (λ (xs : List ℕ). Front xs r firsts)
+    (samples_several m n f (a + b) below
+    (join_several m n c.requires.0.some f a b (sides_parts sides (few_joint low))))
+    (passed.listed low) in
+    let wire : (low : r ≤ m) → Wire m n f (get_or (groups_of n links) (n + k) 0) r (λ i. get_or firsts i 0) = λ low.
+    subst⁻¹ (λ (g : ℕ). Wire m n f g r (λ i. get_or firsts i 0)) own
+    (gate_wire m n c.requires.0.some f (a + b) r firsts (few_joint low) below (front low)) in
     let low = c.if-m-classes.false in
     let l = c.loop-k in
     let joined = c.join-net.ensures n f (eqb (k + 1) c.args.wiring.gates) a b going.levels (passed.digits low) in (
@@ -254,8 +253,8 @@ group_of-requires c =
     let few : (n + k < most_wires) × (k < most_gates) = (omega (arith, c.requires.0.inputs, c.requires.1, c.loop-k-test.true), omega (arith, c.requires.0.inputs, c.requires.1, c.loop-k-test.true)) in
     let wires : List ℕ = c.loop-k.wires in
     let rows : WireRows m n f (groups_of n links) (n + k) wires = c.loop-k.invariant.4 in
-    let room : (r : ℕ) → r < n + k → r * 11 + 2 + size_at wires r ≤ length wires = λ r h. 
-        omega (arith, size_few m n c.requires.0.some f (groups_of n links) (n + k) wires rows r h, c.requires.0.levels, few.0, c.loop-k.invariant.2) in
+    let room : (r : ℕ) → r < n + k → r * 11 + 2 + size_at wires r ≤ length wires = λ r h.
+    omega (arith, size_few m n c.requires.0.some f (groups_of n links) (n + k) wires rows r h, c.requires.0.levels, few.0, c.loop-k.invariant.2) in
     omega (arith, room _ refers.0)
 
 pub group_of-requires-in-loop-k : goal.group_of-requires-in-loop-k
@@ -273,8 +272,8 @@ group_of-requires-in-loop-k c =
     let few : (n + k < most_wires) × (k < most_gates) = (omega (arith, c.requires.0.inputs, c.requires.1, c.loop-k-test.true), omega (arith, c.requires.0.inputs, c.requires.1, c.loop-k-test.true)) in
     let wires : List ℕ = c.loop-k.wires in
     let rows : WireRows m n f (groups_of n links) (n + k) wires = c.loop-k.invariant.4 in
-    let room : (r : ℕ) → r < n + k → r * 11 + 2 + size_at wires r ≤ length wires = λ r h. 
-        omega (arith, size_few m n c.requires.0.some f (groups_of n links) (n + k) wires rows r h, c.requires.0.levels, few.0, c.loop-k.invariant.2) in
+    let room : (r : ℕ) → r < n + k → r * 11 + 2 + size_at wires r ≤ length wires = λ r h.
+    omega (arith, size_few m n c.requires.0.some f (groups_of n links) (n + k) wires rows r h, c.requires.0.levels, few.0, c.loop-k.invariant.2) in
     omega (arith, room _ refers.1)
 
 pub overflow_add-group : goal.overflow_add-group
@@ -296,9 +295,9 @@ overflow_add-group c =
     let refers : (next.left < n + k) × (next.right < n + k) = earlier m n (λ _. 0) f links c.requires.3 k k< next is_next in
     let wires : List ℕ = c.loop-k.wires in
     let rows : WireRows m n f (groups_of n links) (n + k) wires = c.loop-k.invariant.4 in
-    let sum_is : c.group_of.result + c.group_of-in-loop-k.result ≡ a + b = 
-        ap₂ (λ (x y : ℕ). x + y) (c.group_of.ensures ∙ (rows next.left refers.0).0)
-        (c.group_of-in-loop-k.ensures ∙ (rows next.right refers.1).0) in
+    let sum_is : c.group_of.result + c.group_of-in-loop-k.result ≡ a + b =
+    ap₂ (λ (x y : ℕ). x + y) (c.group_of.ensures ∙ (rows next.left refers.0).0)
+    (c.group_of-in-loop-k.ensures ∙ (rows next.right refers.1).0) in
     omega (arith, sum_is, small)
 
 pub overflow_add-n : goal.overflow_add-n

@@ -21,8 +21,8 @@ overflow_cast-result-then-v-right c = omega (arith, c.shared_slice_known-then-v-
 
 pub overflow_add-result : goal.overflow_add-result
 overflow_add-result c = omega (
-      arith,
-      c.shared_slice_known-1.given c.args.u,
-      c.shared_slice_known-then-v-right-1.given
-          c.args.v,
-    )
+  arith,
+  c.shared_slice_known-1.given c.args.u,
+  c.shared_slice_known-then-v-right-1.given
+      c.args.v,
+)

@@ -18,13 +18,12 @@ other_offsets-other-requires c =
     (sized.some, omega (arith, sized.inputs), omega (arith, sized.small), c.requires.1.for_ys, joint_below _ _ _ _ _ _ _ c.requires.0)
 
 pub loop-next-init : goal.loop-next-init
-loop-next-init c =
-    (
-      refl,
-      refl,
-      at_start _ _ _ _ _ _ _ c.requires.0 _ _ _ _ _ _ c.other_offsets-other.ensures _ c.requires.1 refl
-          (λ u h. get_or-replicate 9 u 0 0 (omega (arith, sides_few _ _ _ _ _ _ _ c.requires.0, c.requires.0.sized.levels))),
-    )
+loop-next-init c = (
+  refl,
+  refl,
+  at_start _ _ _ _ _ _ _ c.requires.0 _ _ _ _ _ _ c.other_offsets-other.ensures _ c.requires.1 refl
+      (λ u h. get_or-replicate 9 u 0 0 (omega (arith, sides_few _ _ _ _ _ _ _ c.requires.0, c.requires.0.sized.levels))),
+)
 
 pub next_row-u-requires : goal.next_row-u-requires
 next_row-u-requires c =
@@ -129,7 +128,7 @@ overflow_add-result c = omega (arith, c.requires.0.sized.levels)
 
 pub counted-count-requires : goal.counted-count-requires
 counted-count-requires c = omega (
-      arith,
-      c.if-m-class.false,
-      c.requires.0.sized.levels,
-    )
+  arith,
+  c.if-m-class.false,
+  c.requires.0.sized.levels,
+)

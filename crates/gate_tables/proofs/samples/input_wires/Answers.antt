@@ -26,12 +26,11 @@ overflow_cast-power c =
     omega (arith, c.power-in-loop-i.ensures, pow_mono {i = c.loop-i.i} {j = 15} (omega (arith, c.loop-i-test.true, c.requires)))
 
 pub put_row-requires : goal.put_row-requires
-put_row-requires c =
-    (
-      omega (arith, c.requires),
-      omega (arith, c.requires),
-      omega (arith, c.requires, c.loop-i.invariant.1, c.loop-i-test.true),
-    )
+put_row-requires c = (
+  omega (arith, c.requires),
+  omega (arith, c.requires),
+  omega (arith, c.requires, c.loop-i.invariant.1, c.loop-i-test.true),
+)
 
 pub loop-i-preserved : goal.loop-i-preserved
 loop-i-preserved c =

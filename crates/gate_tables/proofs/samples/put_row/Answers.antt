@@ -5,9 +5,9 @@ use Rattle.gate_tables.proofs.samples.put_row.Goals as goal
 
 pub loop-i-preserved : goal.loop-i-preserved
 loop-i-preserved c =
-    let long : length c.loop-i.wires ≡ length c.args.wires.now = 
-        let a = c.args in
-        c.loop-i.invariant.1.long ∙ length-set (set a.wires.now (a.r * 11) a.group) _ _ ∙ length-set a.wires.now _ _ in
+    let long : length c.loop-i.wires ≡ length c.args.wires.now =
+    let a = c.args in
+    c.loop-i.invariant.1.long ∙ length-set (set a.wires.now (a.r * 11) a.group) _ _ ∙ length-set a.wires.now _ _ in
     let l = c.loop-i in
     let a = c.args in
     (omega arith, put_next (λ j. get_or a.from.now j 0) _ l.i _ l.wires l.invariant.1 _ refl (omega (arith, long)) _ refl)
@@ -26,7 +26,7 @@ loop-i-init c = (omega arith, put_none _ _ _)
 
 pub bounds-wires-at-in-loop-i : goal.bounds-wires-at-in-loop-i
 bounds-wires-at-in-loop-i c =
-    let long : length c.loop-i.wires ≡ length c.args.wires.now = 
-        let a = c.args in
-        c.loop-i.invariant.1.long ∙ length-set (set a.wires.now (a.r * 11) a.group) _ _ ∙ length-set a.wires.now _ _ in
+    let long : length c.loop-i.wires ≡ length c.args.wires.now =
+    let a = c.args in
+    c.loop-i.invariant.1.long ∙ length-set (set a.wires.now (a.r * 11) a.group) _ _ ∙ length-set a.wires.now _ _ in
     omega (arith, long)

@@ -45,9 +45,9 @@ pub mark_without-mark-requires : goal.mark_without-mark-requires
 mark_without-mark-requires c =
     let fitted : Size c.args.m c.args.n = sized c.args.m c.args.n c.requires.0.size in
     let number : (c.power-whole.result - 1 ≡ whole_group c.args.n) × (0 < c.power-whole.result - 1) × (c.power-whole.result - 1 < 2 ^ c.args.n) = let fit = fitted in whole_number c.args.n c.power-whole.result (omega (arith, fit.inputs_least)) c.power-whole.ensures in
-    let room : 2 ^ c.args.n ≤ length c.mark_below-idle.new.marks = 
-        let a = c.args in
-        has_room a.m a.n (ink_in a.cells.now) a.marks.now c.requires.1 (2 ^ a.n - 1) _ c.mark_below-idle.ensures.marked in
+    let room : 2 ^ c.args.n ≤ length c.mark_below-idle.new.marks =
+    let a = c.args in
+    has_room a.m a.n (ink_in a.cells.now) a.marks.now c.requires.1 (2 ^ a.n - 1) _ c.mark_below-idle.ensures.marked in
     let g = number in
     (g.1, omega (arith, g.2, pow_mono fitted.inputs_most), omega (arith, g.2, room))
 
@@ -55,9 +55,9 @@ pub put_mark-requires : goal.put_mark-requires
 put_mark-requires c =
     let fitted : Size c.args.m c.args.n = sized c.args.m c.args.n c.requires.0.size in
     let number : (c.power-whole.result - 1 ≡ whole_group c.args.n) × (0 < c.power-whole.result - 1) × (c.power-whole.result - 1 < 2 ^ c.args.n) = let fit = fitted in whole_number c.args.n c.power-whole.result (omega (arith, fit.inputs_least)) c.power-whole.ensures in
-    let room : 2 ^ c.args.n ≤ length c.mark_below-idle.new.marks = 
-        let a = c.args in
-        has_room a.m a.n (ink_in a.cells.now) a.marks.now c.requires.1 (2 ^ a.n - 1) _ c.mark_below-idle.ensures.marked in
+    let room : 2 ^ c.args.n ≤ length c.mark_below-idle.new.marks =
+    let a = c.args in
+    has_room a.m a.n (ink_in a.cells.now) a.marks.now c.requires.1 (2 ^ a.n - 1) _ c.mark_below-idle.ensures.marked in
     omega (arith, number.2, room)
 
 pub returns : goal.returns

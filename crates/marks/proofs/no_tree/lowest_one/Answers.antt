@@ -17,7 +17,6 @@ loop-g-preserved c = (
   omega arith,
   lowest_next _ _ _ _ _ c.loop-g-test.true (sym c.is_one_of.ensures ∙ c.if-is_one_of.false)
       ∙ c.loop-g.invariant.1,
-
 )
 
 pub returns : goal.returns

@@ -24,7 +24,6 @@ loop-k-preserved c = (
   mark_place_next _ _ _ c.loop-k-test.true _ _ c.power-end.ensures c.lowest_one-g.ensures
       c.if-g-end.false
       ∙ c.loop-k.invariant.1,
-
 )
 
 pub returns : goal.returns

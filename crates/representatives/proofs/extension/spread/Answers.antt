@@ -12,11 +12,10 @@ pub offset_bounds-weights-i : goal.offset_bounds-weights-i
 offset_bounds-weights-i c =
     let is_first : c.first_of-i.result ≡ first_input c.args.n c.loop-rest.rest = c.first_of-i.ensures c.args.n (spreads_group c.requires c.loop-rest.invariant) in
     omega (
-  arith,
-  spreads_input c.requires c.loop-rest.invariant
-      c.loop-rest-test.true is_first,
-
-)
+      arith,
+      spreads_input c.requires c.loop-rest.invariant
+          c.loop-rest-test.true is_first,
+    )
 
 pub bounds-weights-i : goal.bounds-weights-i
 bounds-weights-i c =
@@ -36,15 +35,15 @@ widen-count-requires c =
 
 pub loop-rest-smaller : goal.loop-rest-smaller
 loop-rest-smaller c =
-    let is_rest : c.without_first-rest.result ≡ c.loop-rest.rest - 2 ^ first_input c.args.n c.loop-rest.rest = 
-        c.without_first-rest.ensures c.args.n (spreads_group c.requires c.loop-rest.invariant) in
+    let is_rest : c.without_first-rest.result ≡ c.loop-rest.rest - 2 ^ first_input c.args.n c.loop-rest.rest =
+    c.without_first-rest.ensures c.args.n (spreads_group c.requires c.loop-rest.invariant) in
     omega (arith, is_rest, c.loop-rest-test.true, pow_pos (first_input c.args.n c.loop-rest.rest))
 
 pub loop-rest-preserved : goal.loop-rest-preserved
 loop-rest-preserved c =
     let is_first : c.first_of-i.result ≡ first_input c.args.n c.loop-rest.rest = c.first_of-i.ensures c.args.n (spreads_group c.requires c.loop-rest.invariant) in
-    let is_rest : c.without_first-rest.result ≡ c.loop-rest.rest - 2 ^ first_input c.args.n c.loop-rest.rest = 
-        c.without_first-rest.ensures c.args.n (spreads_group c.requires c.loop-rest.invariant) in
+    let is_rest : c.without_first-rest.result ≡ c.loop-rest.rest - 2 ^ first_input c.args.n c.loop-rest.rest =
+    c.without_first-rest.ensures c.args.n (spreads_group c.requires c.loop-rest.invariant) in
     spreads_next c.requires c.loop-rest.invariant c.loop-rest-test.true is_first
     c.widen-count.ensures.0 c.widen-count.ensures.1 c.widen-count.auto.out is_rest
 

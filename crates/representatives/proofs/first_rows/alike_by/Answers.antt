@@ -28,32 +28,32 @@ returns-in-At c =
 
 pub overflow_add-p : goal.overflow_add-p
 overflow_add-p c =
-    let in_cells : let a = c.args in (a.p + a.hint < length a.cells.now) × (a.q + a.hint < length a.cells.now) = 
-        let a = c.args in
-        let columns = columns_of a.run a.heads.now in
-        (column_within columns a.p c.requires.2 c.requires.1, column_within columns a.q c.requires.3 c.requires.1) in
+    let in_cells : let a = c.args in (a.p + a.hint < length a.cells.now) × (a.q + a.hint < length a.cells.now) =
+    let a = c.args in
+    let columns = columns_of a.run a.heads.now in
+    (column_within columns a.p c.requires.2 c.requires.1, column_within columns a.q c.requires.3 c.requires.1) in
     omega (arith, in_cells)
 
 pub bounds-cells-p : goal.bounds-cells-p
 bounds-cells-p c =
-    let in_cells : let a = c.args in (a.p + a.hint < length a.cells.now) × (a.q + a.hint < length a.cells.now) = 
-        let a = c.args in
-        let columns = columns_of a.run a.heads.now in
-        (column_within columns a.p c.requires.2 c.requires.1, column_within columns a.q c.requires.3 c.requires.1) in
+    let in_cells : let a = c.args in (a.p + a.hint < length a.cells.now) × (a.q + a.hint < length a.cells.now) =
+    let a = c.args in
+    let columns = columns_of a.run a.heads.now in
+    (column_within columns a.p c.requires.2 c.requires.1, column_within columns a.q c.requires.3 c.requires.1) in
     in_cells.0
 
 pub overflow_add-q : goal.overflow_add-q
 overflow_add-q c =
-    let in_cells : let a = c.args in (a.p + a.hint < length a.cells.now) × (a.q + a.hint < length a.cells.now) = 
-        let a = c.args in
-        let columns = columns_of a.run a.heads.now in
-        (column_within columns a.p c.requires.2 c.requires.1, column_within columns a.q c.requires.3 c.requires.1) in
+    let in_cells : let a = c.args in (a.p + a.hint < length a.cells.now) × (a.q + a.hint < length a.cells.now) =
+    let a = c.args in
+    let columns = columns_of a.run a.heads.now in
+    (column_within columns a.p c.requires.2 c.requires.1, column_within columns a.q c.requires.3 c.requires.1) in
     omega (arith, in_cells)
 
 pub bounds-cells-q : goal.bounds-cells-q
 bounds-cells-q c =
-    let in_cells : let a = c.args in (a.p + a.hint < length a.cells.now) × (a.q + a.hint < length a.cells.now) = 
-        let a = c.args in
-        let columns = columns_of a.run a.heads.now in
-        (column_within columns a.p c.requires.2 c.requires.1, column_within columns a.q c.requires.3 c.requires.1) in
+    let in_cells : let a = c.args in (a.p + a.hint < length a.cells.now) × (a.q + a.hint < length a.cells.now) =
+    let a = c.args in
+    let columns = columns_of a.run a.heads.now in
+    (column_within columns a.p c.requires.2 c.requires.1, column_within columns a.q c.requires.3 c.requires.1) in
     in_cells.1

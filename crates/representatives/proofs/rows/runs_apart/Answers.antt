@@ -30,36 +30,36 @@ returns c =
 
 pub overflow_add-p : goal.overflow_add-p
 overflow_add-p c =
-    let in_cells : let a = c.args in let h = get_or a.heads.now c.loop-k.k 0 in (a.p + h + a.run ≤ length a.cells.now) × (a.q + h + a.run ≤ length a.cells.now) = 
-        let a = c.args in
-        let cols = columns_of a.run a.heads.now in
-        let last = column_there a.run a.heads.now c.loop-k.k (a.run - 1) c.loop-k-test.true (omega (arith, c.requires.0)) in
-        (omega (arith, c.requires.0, column_within cols a.p c.requires.1 last), omega (arith, c.requires.0, column_within cols a.q c.requires.2 last)) in
+    let in_cells : let a = c.args in let h = get_or a.heads.now c.loop-k.k 0 in (a.p + h + a.run ≤ length a.cells.now) × (a.q + h + a.run ≤ length a.cells.now) =
+    let a = c.args in
+    let cols = columns_of a.run a.heads.now in
+    let last = column_there a.run a.heads.now c.loop-k.k (a.run - 1) c.loop-k-test.true (omega (arith, c.requires.0)) in
+    (omega (arith, c.requires.0, column_within cols a.p c.requires.1 last), omega (arith, c.requires.0, column_within cols a.q c.requires.2 last)) in
     omega (arith, in_cells)
 
 pub overflow_add-q : goal.overflow_add-q
 overflow_add-q c =
-    let in_cells : let a = c.args in let h = get_or a.heads.now c.loop-k.k 0 in (a.p + h + a.run ≤ length a.cells.now) × (a.q + h + a.run ≤ length a.cells.now) = 
-        let a = c.args in
-        let cols = columns_of a.run a.heads.now in
-        let last = column_there a.run a.heads.now c.loop-k.k (a.run - 1) c.loop-k-test.true (omega (arith, c.requires.0)) in
-        (omega (arith, c.requires.0, column_within cols a.p c.requires.1 last), omega (arith, c.requires.0, column_within cols a.q c.requires.2 last)) in
+    let in_cells : let a = c.args in let h = get_or a.heads.now c.loop-k.k 0 in (a.p + h + a.run ≤ length a.cells.now) × (a.q + h + a.run ≤ length a.cells.now) =
+    let a = c.args in
+    let cols = columns_of a.run a.heads.now in
+    let last = column_there a.run a.heads.now c.loop-k.k (a.run - 1) c.loop-k-test.true (omega (arith, c.requires.0)) in
+    (omega (arith, c.requires.0, column_within cols a.p c.requires.1 last), omega (arith, c.requires.0, column_within cols a.q c.requires.2 last)) in
     omega (arith, in_cells)
 
 pub run_apart-z-requires : goal.run_apart-z-requires
 run_apart-z-requires c =
-    let in_cells : let a = c.args in let h = get_or a.heads.now c.loop-k.k 0 in (a.p + h + a.run ≤ length a.cells.now) × (a.q + h + a.run ≤ length a.cells.now) = 
-        let a = c.args in
-        let cols = columns_of a.run a.heads.now in
-        let last = column_there a.run a.heads.now c.loop-k.k (a.run - 1) c.loop-k-test.true (omega (arith, c.requires.0)) in
-        (omega (arith, c.requires.0, column_within cols a.p c.requires.1 last), omega (arith, c.requires.0, column_within cols a.q c.requires.2 last)) in
+    let in_cells : let a = c.args in let h = get_or a.heads.now c.loop-k.k 0 in (a.p + h + a.run ≤ length a.cells.now) × (a.q + h + a.run ≤ length a.cells.now) =
+    let a = c.args in
+    let cols = columns_of a.run a.heads.now in
+    let last = column_there a.run a.heads.now c.loop-k.k (a.run - 1) c.loop-k-test.true (omega (arith, c.requires.0)) in
+    (omega (arith, c.requires.0, column_within cols a.p c.requires.1 last), omega (arith, c.requires.0, column_within cols a.q c.requires.2 last)) in
     in_cells
 
 pub overflow_add-result : goal.overflow_add-result
 overflow_add-result c =
-    let in_cells : let a = c.args in let h = get_or a.heads.now c.loop-k.k 0 in (a.p + h + a.run ≤ length a.cells.now) × (a.q + h + a.run ≤ length a.cells.now) = 
-        let a = c.args in
-        let cols = columns_of a.run a.heads.now in
-        let last = column_there a.run a.heads.now c.loop-k.k (a.run - 1) c.loop-k-test.true (omega (arith, c.requires.0)) in
-        (omega (arith, c.requires.0, column_within cols a.p c.requires.1 last), omega (arith, c.requires.0, column_within cols a.q c.requires.2 last)) in
+    let in_cells : let a = c.args in let h = get_or a.heads.now c.loop-k.k 0 in (a.p + h + a.run ≤ length a.cells.now) × (a.q + h + a.run ≤ length a.cells.now) =
+    let a = c.args in
+    let cols = columns_of a.run a.heads.now in
+    let last = column_there a.run a.heads.now c.loop-k.k (a.run - 1) c.loop-k-test.true (omega (arith, c.requires.0)) in
+    (omega (arith, c.requires.0, column_within cols a.p c.requires.1 last), omega (arith, c.requires.0, column_within cols a.q c.requires.2 last)) in
     omega (arith, in_cells, c.if-z-run.true)

@@ -25,36 +25,36 @@ returns c =
 
 pub overflow_add-p : goal.overflow_add-p
 overflow_add-p c =
-    let in_cells : let a = c.args in (a.p + a.base < length a.cells.now) × (a.q + a.base < length a.cells.now) = 
-        let a = c.args in
-        let pre = c.requires.1 in
-        let columns = columns_of a.run a.heads.now in
-        (column_within columns a.p pre.left pre.there, column_within columns a.q pre.right pre.there) in
+    let in_cells : let a = c.args in (a.p + a.base < length a.cells.now) × (a.q + a.base < length a.cells.now) =
+    let a = c.args in
+    let pre = c.requires.1 in
+    let columns = columns_of a.run a.heads.now in
+    (column_within columns a.p pre.left pre.there, column_within columns a.q pre.right pre.there) in
     omega (arith, in_cells)
 
 pub bounds-cells-p : goal.bounds-cells-p
 bounds-cells-p c =
-    let in_cells : let a = c.args in (a.p + a.base < length a.cells.now) × (a.q + a.base < length a.cells.now) = 
-        let a = c.args in
-        let pre = c.requires.1 in
-        let columns = columns_of a.run a.heads.now in
-        (column_within columns a.p pre.left pre.there, column_within columns a.q pre.right pre.there) in
+    let in_cells : let a = c.args in (a.p + a.base < length a.cells.now) × (a.q + a.base < length a.cells.now) =
+    let a = c.args in
+    let pre = c.requires.1 in
+    let columns = columns_of a.run a.heads.now in
+    (column_within columns a.p pre.left pre.there, column_within columns a.q pre.right pre.there) in
     in_cells.0
 
 pub overflow_add-q : goal.overflow_add-q
 overflow_add-q c =
-    let in_cells : let a = c.args in (a.p + a.base < length a.cells.now) × (a.q + a.base < length a.cells.now) = 
-        let a = c.args in
-        let pre = c.requires.1 in
-        let columns = columns_of a.run a.heads.now in
-        (column_within columns a.p pre.left pre.there, column_within columns a.q pre.right pre.there) in
+    let in_cells : let a = c.args in (a.p + a.base < length a.cells.now) × (a.q + a.base < length a.cells.now) =
+    let a = c.args in
+    let pre = c.requires.1 in
+    let columns = columns_of a.run a.heads.now in
+    (column_within columns a.p pre.left pre.there, column_within columns a.q pre.right pre.there) in
     omega (arith, in_cells)
 
 pub bounds-cells-q : goal.bounds-cells-q
 bounds-cells-q c =
-    let in_cells : let a = c.args in (a.p + a.base < length a.cells.now) × (a.q + a.base < length a.cells.now) = 
-        let a = c.args in
-        let pre = c.requires.1 in
-        let columns = columns_of a.run a.heads.now in
-        (column_within columns a.p pre.left pre.there, column_within columns a.q pre.right pre.there) in
+    let in_cells : let a = c.args in (a.p + a.base < length a.cells.now) × (a.q + a.base < length a.cells.now) =
+    let a = c.args in
+    let pre = c.requires.1 in
+    let columns = columns_of a.run a.heads.now in
+    (column_within columns a.p pre.left pre.there, column_within columns a.q pre.right pre.there) in
     in_cells.1

@@ -96,10 +96,10 @@ group_count-returns-then-single t c =
     let marks : List ℕ = c.args.marks.now in
     let group : Countable marks counts g = c.requires in
     let two : mark_in marks g ≡ 2 = sym c.mark_at.ensures ∙ c.if-mark_at-ne2.false in
-    let is_one : (n : ℕ) → g < 2 ^ n → 1 ≡ group_trees n marks g = λ n g<. 
-        sym
-        (count_single n marks g g< two
-        (eqb-true (size n g) 1 (sym (c.single.ensures n g<) ∙ c.if-single.true))) in
+    let is_one : (n : ℕ) → g < 2 ^ n → 1 ≡ group_trees n marks g = λ n g<.
+    sym
+    (count_single n marks g g< two
+    (eqb-true (size n g) 1 (sym (c.single.ensures n g<) ∙ c.if-single.true))) in
     record { count = is_one; kept = one_kept marks counts g 1 group.kept group.room is_one }
 
 -- ---- several: the loop
@@ -143,9 +143,9 @@ group_count-overflow_add-first t c =
     let rest : ℕ = c.without_first-rest.result in
     let is_rest : (n : ℕ) → g < 2 ^ n → rest ≡ g - 2 ^ first_input n g = c.without_first-rest.ensures in
     let part : ℕ = c.loop-part.part in
-    let here : Splittable marks c.loop-part.counts g ((g - rest) + part) = 
-        looked marks g rest group.some is_rest counts c.loop-part.counts group has_two c.loop-part.invariant.0
-        c.loop-part.invariant.1 part c.loop-part-test.true c.loop-part.invariant.2 in
+    let here : Splittable marks c.loop-part.counts g ((g - rest) + part) =
+    looked marks g rest group.some is_rest counts c.loop-part.counts group has_two c.loop-part.invariant.0
+    c.loop-part.invariant.1 part c.loop-part-test.true c.loop-part.invariant.2 in
     omega (arith, here.less, here.group.below)
 
 pub group_count-kept_product-product-requires : goal.group_count-kept_product-product-requires
@@ -159,9 +159,9 @@ group_count-kept_product-product-requires t c =
     let rest : ℕ = c.without_first-rest.result in
     let is_rest : (n : ℕ) → g < 2 ^ n → rest ≡ g - 2 ^ first_input n g = c.without_first-rest.ensures in
     let part : ℕ = c.loop-part.part in
-    let here : Splittable marks c.loop-part.counts g ((g - rest) + part) = 
-        looked marks g rest group.some is_rest counts c.loop-part.counts group has_two c.loop-part.invariant.0
-        c.loop-part.invariant.1 part c.loop-part-test.true c.loop-part.invariant.2 in
+    let here : Splittable marks c.loop-part.counts g ((g - rest) + part) =
+    looked marks g rest group.some is_rest counts c.loop-part.counts group has_two c.loop-part.invariant.0
+    c.loop-part.invariant.1 part c.loop-part-test.true c.loop-part.invariant.2 in
     (here.less, here.group.room, product_fits _ _ _ _ here)
 
 -- one of the two is not known: the split's count is computed
@@ -176,9 +176,9 @@ group_count-overflow_add-first-then-product-eq0 t c =
     let rest : ℕ = c.without_first-rest.result in
     let is_rest : (n : ℕ) → g < 2 ^ n → rest ≡ g - 2 ^ first_input n g = c.without_first-rest.ensures in
     let part : ℕ = c.loop-part.part in
-    let here : Splittable marks c.loop-part.counts g ((g - rest) + part) = 
-        looked marks g rest group.some is_rest counts c.loop-part.counts group has_two c.loop-part.invariant.0
-        c.loop-part.invariant.1 part c.loop-part-test.true c.loop-part.invariant.2 in
+    let here : Splittable marks c.loop-part.counts g ((g - rest) + part) =
+    looked marks g rest group.some is_rest counts c.loop-part.counts group has_two c.loop-part.invariant.0
+    c.loop-part.invariant.1 part c.loop-part-test.true c.loop-part.invariant.2 in
     omega (arith, here.less, here.group.below)
 
 pub group_count-split_count-sum-requires : goal.group_count-split_count-sum-requires
@@ -192,9 +192,9 @@ group_count-split_count-sum-requires t c =
     let rest : ℕ = c.without_first-rest.result in
     let is_rest : (n : ℕ) → g < 2 ^ n → rest ≡ g - 2 ^ first_input n g = c.without_first-rest.ensures in
     let part : ℕ = c.loop-part.part in
-    let here : Splittable marks c.loop-part.counts g ((g - rest) + part) = 
-        looked marks g rest group.some is_rest counts c.loop-part.counts group has_two c.loop-part.invariant.0
-        c.loop-part.invariant.1 part c.loop-part-test.true c.loop-part.invariant.2 in
+    let here : Splittable marks c.loop-part.counts g ((g - rest) + part) =
+    looked marks g rest group.some is_rest counts c.loop-part.counts group has_two c.loop-part.invariant.0
+    c.loop-part.invariant.1 part c.loop-part-test.true c.loop-part.invariant.2 in
     let falls : size most_inputs g + size most_inputs g - 1 < t =
     omega (arith, c.decreases, size_pos most_inputs g group.below group.some) in
     (falls, here)
@@ -212,13 +212,13 @@ group_count-overflow_add-sum t c =
     let part : ℕ = c.loop-part.part in
     let several : (n : ℕ) → g < 2 ^ n → size n g ≢ 1 = λ n g<. eqb-false (size n g) 1 (sym (c.single.ensures n g<) ∙ c.if-single.false) in
     let sum : ℕ = c.loop-part.sum in
-    let fits : (count : ℕ) → ((n : ℕ) → g < 2 ^ n → count ≡ split_counted n marks g ((g - rest) + part)) → sum + count < 2 ^ 64 = λ count is. 
-        omega (
-          arith,
-          summed_most marks g rest group.some is_rest part sum count group.below c.loop-part-test.true c.loop-part.invariant.2
-              c.loop-part.invariant.3 is has_two several,
-          group_trees_fit most_inputs marks (omega arith) g,
-        ) in
+    let fits : (count : ℕ) → ((n : ℕ) → g < 2 ^ n → count ≡ split_counted n marks g ((g - rest) + part)) → sum + count < 2 ^ 64 = λ count is.
+    omega (
+      arith,
+      summed_most marks g rest group.some is_rest part sum count group.below c.loop-part-test.true c.loop-part.invariant.2
+          c.loop-part.invariant.3 is has_two several,
+      group_trees_fit most_inputs marks (omega arith) g,
+    ) in
     omega (arith, fits _ c.split_count-sum.ensures.count)
 
 pub group_count-next_part-part-requires : goal.group_count-next_part-part-requires
@@ -246,10 +246,9 @@ group_count-loop-part-preserved-then-product-eq0 t c =
     let group : Countable marks counts g = c.requires in
     let is_rest : (n : ℕ) → g < 2 ^ n → rest ≡ g - 2 ^ first_input n g = c.without_first-rest.ensures in
     let sum : ℕ = c.loop-part.sum in
-    let summed : (count next : ℕ) → ((n : ℕ) → g < 2 ^ n → count ≡ split_counted n marks g ((g - rest) + part)) → Next rest part next → Summed marks g rest next (sum + count) = λ count next is after. 
-        summed_next marks g rest group.some is_rest part next sum count c.loop-part-test.true c.loop-part.invariant.2 after
-        c.loop-part.invariant.3 is in
-    (
+    let summed : (count next : ℕ) → ((n : ℕ) → g < 2 ^ n → count ≡ split_counted n marks g ((g - rest) + part)) → Next rest part next → Summed marks g rest next (sum + count) = λ count next is after.
+    summed_next marks g rest group.some is_rest part next sum count c.loop-part-test.true c.loop-part.invariant.2 after
+    c.loop-part.invariant.3 is in (
       c.split_count-sum.auto.counts ∙ c.loop-part.invariant.0,
       c.split_count-sum.ensures.kept,
       passed_next rest part c.next_part-part.result c.loop-part-test.true c.next_part-part.ensures,
@@ -269,19 +268,19 @@ group_count-overflow_add-sum-else-product-eq0 t c =
     let part : ℕ = c.loop-part.part in
     let several : (n : ℕ) → g < 2 ^ n → size n g ≢ 1 = λ n g<. eqb-false (size n g) 1 (sym (c.single.ensures n g<) ∙ c.if-single.false) in
     let sum : ℕ = c.loop-part.sum in
-    let fits : (count : ℕ) → ((n : ℕ) → g < 2 ^ n → count ≡ split_counted n marks g ((g - rest) + part)) → sum + count < 2 ^ 64 = λ count is. 
-        omega (
-          arith,
-          summed_most marks g rest group.some is_rest part sum count group.below c.loop-part-test.true c.loop-part.invariant.2
-              c.loop-part.invariant.3 is has_two several,
-          group_trees_fit most_inputs marks (omega arith) g,
-        ) in
-    let here : Splittable marks c.loop-part.counts g ((g - rest) + part) = 
-        looked marks g rest group.some is_rest counts c.loop-part.counts group has_two c.loop-part.invariant.0
-        c.loop-part.invariant.1 part c.loop-part-test.true c.loop-part.invariant.2 in
-    let is_split : (n : ℕ) → g < 2 ^ n → c.kept_product-product.result ≡ split_counted n marks g ((g - rest) + part) = λ n g<. 
-        c.kept_product-product.ensures
-        ∙ product_split _ _ _ _ here (λ none. c.if-product-eq0.false (c.kept_product-product.ensures ∙ none)) n g< in
+    let fits : (count : ℕ) → ((n : ℕ) → g < 2 ^ n → count ≡ split_counted n marks g ((g - rest) + part)) → sum + count < 2 ^ 64 = λ count is.
+    omega (
+      arith,
+      summed_most marks g rest group.some is_rest part sum count group.below c.loop-part-test.true c.loop-part.invariant.2
+          c.loop-part.invariant.3 is has_two several,
+      group_trees_fit most_inputs marks (omega arith) g,
+    ) in
+    let here : Splittable marks c.loop-part.counts g ((g - rest) + part) =
+    looked marks g rest group.some is_rest counts c.loop-part.counts group has_two c.loop-part.invariant.0
+    c.loop-part.invariant.1 part c.loop-part-test.true c.loop-part.invariant.2 in
+    let is_split : (n : ℕ) → g < 2 ^ n → c.kept_product-product.result ≡ split_counted n marks g ((g - rest) + part) = λ n g<.
+    c.kept_product-product.ensures
+    ∙ product_split _ _ _ _ here (λ none. c.if-product-eq0.false (c.kept_product-product.ensures ∙ none)) n g< in
     omega (arith, fits _ is_split)
 
 pub group_count-next_part-part-requires-else-product-eq0 : goal.group_count-next_part-part-requires-else-product-eq0
@@ -310,17 +309,16 @@ group_count-loop-part-preserved t c =
     let rest : ℕ = c.without_first-rest.result in
     let is_rest : (n : ℕ) → g < 2 ^ n → rest ≡ g - 2 ^ first_input n g = c.without_first-rest.ensures in
     let part : ℕ = c.loop-part.part in
-    let here : Splittable marks c.loop-part.counts g ((g - rest) + part) = 
-        looked marks g rest group.some is_rest counts c.loop-part.counts group has_two c.loop-part.invariant.0
-        c.loop-part.invariant.1 part c.loop-part-test.true c.loop-part.invariant.2 in
-    let is_split : (n : ℕ) → g < 2 ^ n → c.kept_product-product.result ≡ split_counted n marks g ((g - rest) + part) = λ n g<. 
-        c.kept_product-product.ensures
-        ∙ product_split _ _ _ _ here (λ none. c.if-product-eq0.false (c.kept_product-product.ensures ∙ none)) n g< in
+    let here : Splittable marks c.loop-part.counts g ((g - rest) + part) =
+    looked marks g rest group.some is_rest counts c.loop-part.counts group has_two c.loop-part.invariant.0
+    c.loop-part.invariant.1 part c.loop-part-test.true c.loop-part.invariant.2 in
+    let is_split : (n : ℕ) → g < 2 ^ n → c.kept_product-product.result ≡ split_counted n marks g ((g - rest) + part) = λ n g<.
+    c.kept_product-product.ensures
+    ∙ product_split _ _ _ _ here (λ none. c.if-product-eq0.false (c.kept_product-product.ensures ∙ none)) n g< in
     let sum : ℕ = c.loop-part.sum in
-    let summed : (count next : ℕ) → ((n : ℕ) → g < 2 ^ n → count ≡ split_counted n marks g ((g - rest) + part)) → Next rest part next → Summed marks g rest next (sum + count) = λ count next is after. 
-        summed_next marks g rest group.some is_rest part next sum count c.loop-part-test.true c.loop-part.invariant.2 after
-        c.loop-part.invariant.3 is in
-    (
+    let summed : (count next : ℕ) → ((n : ℕ) → g < 2 ^ n → count ≡ split_counted n marks g ((g - rest) + part)) → Next rest part next → Summed marks g rest next (sum + count) = λ count next is after.
+    summed_next marks g rest group.some is_rest part next sum count c.loop-part-test.true c.loop-part.invariant.2 after
+    c.loop-part.invariant.3 is in (
       c.loop-part.invariant.0,
       c.loop-part.invariant.1,
       passed_next rest part c.next_part-part-else-product-eq0.result c.loop-part-test.true c.next_part-part-else-product-eq0.ensures,
@@ -357,10 +355,10 @@ group_count-returns t c =
     let rest : ℕ = c.without_first-rest.result in
     let is_rest : (n : ℕ) → g < 2 ^ n → rest ≡ g - 2 ^ first_input n g = c.without_first-rest.ensures in
     let several : (n : ℕ) → g < 2 ^ n → size n g ≢ 1 = λ n g<. eqb-false (size n g) 1 (sym (c.single.ensures n g<) ∙ c.if-single.false) in
-    let is_count : (n : ℕ) → g < 2 ^ n → all ≡ group_trees n marks g = 
-        summed_all marks g rest group.some is_rest c.loop-part.part all c.loop-part.invariant.3
-        c.loop-part-test.false
-        has_two several in
+    let is_count : (n : ℕ) → g < 2 ^ n → all ≡ group_trees n marks g =
+    summed_all marks g rest group.some is_rest c.loop-part.part all c.loop-part.invariant.3
+    c.loop-part-test.false
+    has_two several in
     record {
       count = is_count;
       kept = one_kept marks c.loop-part.counts g all c.loop-part.invariant.1 has_room is_count;
@@ -404,13 +402,13 @@ split_count-group_count-right-requires t c =
 pub split_count-overflow_mul-result : goal.split_count-overflow_mul-result
 unfolding split_count
 split_count-overflow_mul-result t c =
-    let is_product : (n : ℕ) → c.args.g < 2 ^ n → c.group_count-left.result * c.group_count-right.result ≡ split_counted n c.args.marks.now c.args.g c.args.a = λ n g<. 
-        ap₂ ◌*◌ (c.group_count-left.ensures.count n (omega (arith, c.requires.less))) (c.group_count-right.ensures.count n (omega arith)) in
+    let is_product : (n : ℕ) → c.args.g < 2 ^ n → c.group_count-left.result * c.group_count-right.result ≡ split_counted n c.args.marks.now c.args.g c.args.a = λ n g<.
+    ap₂ ◌*◌ (c.group_count-left.ensures.count n (omega (arith, c.requires.less))) (c.group_count-right.ensures.count n (omega arith)) in
     omega (arith, is_product most_inputs c.requires.group.below, split_fits _ _ _ _ c.requires)
 
 pub split_count-returns : goal.split_count-returns
 unfolding split_count
 split_count-returns t c =
-    let is_product : (n : ℕ) → c.args.g < 2 ^ n → c.group_count-left.result * c.group_count-right.result ≡ split_counted n c.args.marks.now c.args.g c.args.a = λ n g<. 
-        ap₂ ◌*◌ (c.group_count-left.ensures.count n (omega (arith, c.requires.less))) (c.group_count-right.ensures.count n (omega arith)) in
+    let is_product : (n : ℕ) → c.args.g < 2 ^ n → c.group_count-left.result * c.group_count-right.result ≡ split_counted n c.args.marks.now c.args.g c.args.a = λ n g<.
+    ap₂ ◌*◌ (c.group_count-left.ensures.count n (omega (arith, c.requires.less))) (c.group_count-right.ensures.count n (omega arith)) in
     record { count = is_product; kept = c.group_count-right.ensures.kept }

@@ -35,9 +35,9 @@ overflow_cast-result t c =
     let n : ℕ = c.args.n in
     let r : ℕ = c.args.r in
     let in_count : InCount n marks g r = c.requires.1 in
-    let one : (size n g ≡ 1) × (first_input n g < n) = 
-        let is_one = eqb-true (size n g) 1 (sym (c.single.ensures n in_count.below) ∙ c.if-single.true) in
-        (is_one, (size_one n g in_count.below is_one).0) in
+    let one : (size n g ≡ 1) × (first_input n g < n) =
+    let is_one = eqb-true (size n g) 1 (sym (c.single.ensures n in_count.below) ∙ c.if-single.true) in
+    (is_one, (size_one n g in_count.below is_one).0) in
     omega (arith, c.first_input.ensures, one, in_count.inputs)
 
 pub returns-then-single : goal.returns-then-single
@@ -49,9 +49,9 @@ returns-then-single t c =
     let n : ℕ = c.args.n in
     let r : ℕ = c.args.r in
     let in_count : InCount n marks g r = c.requires.1 in
-    let one : (size n g ≡ 1) × (first_input n g < n) = 
-        let is_one = eqb-true (size n g) 1 (sym (c.single.ensures n in_count.below) ∙ c.if-single.true) in
-        (is_one, (size_one n g in_count.below is_one).0) in
+    let one : (size n g ≡ 1) × (first_input n g < n) =
+    let is_one = eqb-true (size n g) 1 (sym (c.single.ensures n in_count.below) ∙ c.if-single.true) in
+    (is_one, (size_one n g in_count.below is_one).0) in
     subst (λ (k : ℕ). NumberWired n marks g r c.args.wiring c.args.wiring k counts) (sym c.first_input.ensures)
     (numbered_single n marks g r c.args.wiring counts one.1 one.0 group.kept)
 
@@ -225,8 +225,8 @@ overflow_add-reference t c =
     let fallen : record { part = a; number = number } ≡ numbered_at (split_counted n marks g) (splits_of n marks g) r = c.numbered_split-split.ensures.is n in_count.below in
     let several : size n g ≢ 1 = eqb-false (size n g) 1 (sym (c.single.ensures n in_count.below) ∙ c.if-single.false) in
     let sizes : (size n g ≡ size n a + size n (g - a)) × (0 < size n a) × (0 < size n (g - a)) = tree_count_part_sizes n marks g r in_count several a number fallen in
-    let two_more : c.wire_numbered-right.result.wiring.gates + 2 ≤ n = 
-        omega (arith, c.wire_numbered-left.ensures.count, c.wire_numbered-right.ensures.count, sizes, room) in
+    let two_more : c.wire_numbered-right.result.wiring.gates + 2 ≤ n =
+    omega (arith, c.wire_numbered-left.ensures.count, c.wire_numbered-right.ensures.count, sizes, room) in
     omega (arith, two_more, in_count.inputs)
 
 pub overflow_cast-reference : goal.overflow_cast-reference
@@ -242,8 +242,8 @@ overflow_cast-reference t c =
     let fallen : record { part = a; number = number } ≡ numbered_at (split_counted n marks g) (splits_of n marks g) r = c.numbered_split-split.ensures.is n in_count.below in
     let several : size n g ≢ 1 = eqb-false (size n g) 1 (sym (c.single.ensures n in_count.below) ∙ c.if-single.false) in
     let sizes : (size n g ≡ size n a + size n (g - a)) × (0 < size n a) × (0 < size n (g - a)) = tree_count_part_sizes n marks g r in_count several a number fallen in
-    let two_more : c.wire_numbered-right.result.wiring.gates + 2 ≤ n = 
-        omega (arith, c.wire_numbered-left.ensures.count, c.wire_numbered-right.ensures.count, sizes, room) in
+    let two_more : c.wire_numbered-right.result.wiring.gates + 2 ≤ n =
+    omega (arith, c.wire_numbered-left.ensures.count, c.wire_numbered-right.ensures.count, sizes, room) in
     omega (arith, two_more, in_count.inputs)
 
 pub link-all-requires : goal.link-all-requires
@@ -259,8 +259,8 @@ link-all-requires t c =
     let fallen : record { part = a; number = number } ≡ numbered_at (split_counted n marks g) (splits_of n marks g) r = c.numbered_split-split.ensures.is n in_count.below in
     let several : size n g ≢ 1 = eqb-false (size n g) 1 (sym (c.single.ensures n in_count.below) ∙ c.if-single.false) in
     let sizes : (size n g ≡ size n a + size n (g - a)) × (0 < size n a) × (0 < size n (g - a)) = tree_count_part_sizes n marks g r in_count several a number fallen in
-    let two_more : c.wire_numbered-right.result.wiring.gates + 2 ≤ n = 
-        omega (arith, c.wire_numbered-left.ensures.count, c.wire_numbered-right.ensures.count, sizes, room) in
+    let two_more : c.wire_numbered-right.result.wiring.gates + 2 ≤ n =
+    omega (arith, c.wire_numbered-left.ensures.count, c.wire_numbered-right.ensures.count, sizes, room) in
     omega (arith, two_more, in_count.inputs)
 
 pub returns : goal.returns

@@ -28,9 +28,9 @@ overflow_add-result c =
     let rest : ℕ = c.without_first-rest.result in
     let is_rest : (n : ℕ) → g < 2 ^ n → rest ≡ g - 2 ^ first_input n g = c.without_first-rest.ensures in
     let part : ℕ = c.loop-part.part in
-    let here : Splittable marks c.loop-part.counts g ((g - rest) + part) = 
-        looked marks g rest group.some is_rest counts c.loop-part.counts group c.requires.1 c.loop-part.invariant.0
-        c.loop-part.invariant.1 part c.loop-part-test.true c.loop-part.invariant.2 in
+    let here : Splittable marks c.loop-part.counts g ((g - rest) + part) =
+    looked marks g rest group.some is_rest counts c.loop-part.counts group c.requires.1 c.loop-part.invariant.0
+    c.loop-part.invariant.1 part c.loop-part-test.true c.loop-part.invariant.2 in
     omega (arith, here.less, here.group.below)
 
 pub returns-then-left-count : goal.returns-then-left-count
@@ -121,9 +121,9 @@ overflow_add-first c =
     let rest : ℕ = c.without_first-rest.result in
     let is_rest : (n : ℕ) → g < 2 ^ n → rest ≡ g - 2 ^ first_input n g = c.without_first-rest.ensures in
     let part : ℕ = c.loop-part.part in
-    let here : Splittable marks c.loop-part.counts g ((g - rest) + part) = 
-        looked marks g rest group.some is_rest counts c.loop-part.counts group c.requires.1 c.loop-part.invariant.0
-        c.loop-part.invariant.1 part c.loop-part-test.true c.loop-part.invariant.2 in
+    let here : Splittable marks c.loop-part.counts g ((g - rest) + part) =
+    looked marks g rest group.some is_rest counts c.loop-part.counts group c.requires.1 c.loop-part.invariant.0
+    c.loop-part.invariant.1 part c.loop-part-test.true c.loop-part.invariant.2 in
     omega (arith, here.less, here.group.below)
 
 pub known_split-count-requires : goal.known_split-count-requires
@@ -135,7 +135,7 @@ known_split-count-requires c =
     let rest : ℕ = c.without_first-rest.result in
     let is_rest : (n : ℕ) → g < 2 ^ n → rest ≡ g - 2 ^ first_input n g = c.without_first-rest.ensures in
     let part : ℕ = c.loop-part.part in
-    let here : Splittable marks c.loop-part.counts g ((g - rest) + part) = 
-        looked marks g rest group.some is_rest counts c.loop-part.counts group c.requires.1 c.loop-part.invariant.0
-        c.loop-part.invariant.1 part c.loop-part-test.true c.loop-part.invariant.2 in
+    let here : Splittable marks c.loop-part.counts g ((g - rest) + part) =
+    looked marks g rest group.some is_rest counts c.loop-part.counts group c.requires.1 c.loop-part.invariant.0
+    c.loop-part.invariant.1 part c.loop-part-test.true c.loop-part.invariant.2 in
     here

@@ -95,7 +95,7 @@ wire_group-right-requires t c =
     let smaller : (0 < part) × (part < a.g) = less a.n a.marks.now by a.g ready several part is in
     let falls : a.g - part < t = omega (arith, smaller, c.decreases) in
     let fits : c.wire_group-left.result.wiring.gates + size a.n (a.g - part) ≤ a.n =
-        omega (arith, c.wire_group-left.ensures.count, sizes a.n a.marks.now by a.g ready several part is, c.requires.2) in (
+    omega (arith, c.wire_group-left.ensures.count, sizes a.n a.marks.now by a.g ready several part is, c.requires.2) in (
       falls,
       (
         right_choosable a.n a.marks.now by a.g ready several part is,

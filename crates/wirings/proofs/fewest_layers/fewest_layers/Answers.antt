@@ -76,8 +76,8 @@ loop-g-preserved c =
       λ is. elim c.if-layers-floor.branch [
         | then-layers-floor w ↦ absurd (true≢false (sym is ∙ w.sized-is))
         | else-layers-floor w ↦
-          sized_next marks leaves l.fewest g part l.sized l.invariant.3 f.result f.ensures room.1 r.result
-          (omega (arith, w.if-layers-floor.false)) (sym w.sized-is ∙ is) _ after
+            sized_next marks leaves l.fewest g part l.sized l.invariant.3 f.result f.ensures room.1 r.result
+            (omega (arith, w.if-layers-floor.false)) (sym w.sized-is ∙ is) _ after
       ],
       after.part,
     )

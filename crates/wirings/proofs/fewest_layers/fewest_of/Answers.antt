@@ -48,17 +48,17 @@ without_first-rest-requires c = c.requires.0
 pub overflow_add-first : goal.overflow_add-first
 overflow_add-first c =
     let rest : ℕ = c.without_first-rest.result in
-    let here : (0 < (c.args.g - rest) + c.loop-part.part) × ((c.args.g - rest) + c.loop-part.part < c.args.g) = 
-        let at = part_at c.args.g rest c.requires.0 c.without_first-rest.ensures most_members c.requires.1
-        c.loop-part.part c.loop-part-test.true c.loop-part.invariant.is_part in
-        (at.0, at.1) in
+    let here : (0 < (c.args.g - rest) + c.loop-part.part) × ((c.args.g - rest) + c.loop-part.part < c.args.g) =
+    let at = part_at c.args.g rest c.requires.0 c.without_first-rest.ensures most_members c.requires.1
+    c.loop-part.part c.loop-part-test.true c.loop-part.invariant.is_part in
+    (at.0, at.1) in
     omega (arith, here)
 
 pub fewer_by-least-requires : goal.fewer_by-least-requires
 fewer_by-least-requires c =
     let rest : ℕ = c.without_first-rest.result in
-    let here : (0 < (c.args.g - rest) + c.loop-part.part) × ((c.args.g - rest) + c.loop-part.part < c.args.g) = 
-        let at = part_at c.args.g rest c.requires.0 c.without_first-rest.ensures most_members c.requires.1
-        c.loop-part.part c.loop-part-test.true c.loop-part.invariant.is_part in
-        (at.0, at.1) in
+    let here : (0 < (c.args.g - rest) + c.loop-part.part) × ((c.args.g - rest) + c.loop-part.part < c.args.g) =
+    let at = part_at c.args.g rest c.requires.0 c.without_first-rest.ensures most_members c.requires.1
+    c.loop-part.part c.loop-part-test.true c.loop-part.invariant.is_part in
+    (at.0, at.1) in
     (here.0, here.1, c.requires.2, c.requires.3)

@@ -52,27 +52,27 @@ without_first-rest-requires c = c.requires.0
 
 pub overflow_add-first : goal.overflow_add-first
 overflow_add-first c =
-    let there : (0 < (c.args.g - c.without_first-rest.result) + c.loop-part.part) × ((c.args.g - c.without_first-rest.result) + c.loop-part.part < c.args.g) = 
-        let a = part_looked_at _ _ c.args.g c.without_first-rest.result
-        (shallow_looked c.args.marks.now c.args.g c.args.fewest.now) c.requires.0 c.without_first-rest.ensures
-        c.loop-part.part c.loop-part.invariant c.loop-part-test.true most_members c.requires.1 in
-        (a.0, a.1) in
+    let there : (0 < (c.args.g - c.without_first-rest.result) + c.loop-part.part) × ((c.args.g - c.without_first-rest.result) + c.loop-part.part < c.args.g) =
+    let a = part_looked_at _ _ c.args.g c.without_first-rest.result
+    (shallow_looked c.args.marks.now c.args.g c.args.fewest.now) c.requires.0 c.without_first-rest.ensures
+    c.loop-part.part c.loop-part.invariant c.loop-part-test.true most_members c.requires.1 in
+    (a.0, a.1) in
     omega (arith, there)
 
 pub keeps-requires : goal.keeps-requires
 keeps-requires c =
-    let there : (0 < (c.args.g - c.without_first-rest.result) + c.loop-part.part) × ((c.args.g - c.without_first-rest.result) + c.loop-part.part < c.args.g) = 
-        let a = part_looked_at _ _ c.args.g c.without_first-rest.result
-        (shallow_looked c.args.marks.now c.args.g c.args.fewest.now) c.requires.0 c.without_first-rest.ensures
-        c.loop-part.part c.loop-part.invariant c.loop-part-test.true most_members c.requires.1 in
-        (a.0, a.1) in
+    let there : (0 < (c.args.g - c.without_first-rest.result) + c.loop-part.part) × ((c.args.g - c.without_first-rest.result) + c.loop-part.part < c.args.g) =
+    let a = part_looked_at _ _ c.args.g c.without_first-rest.result
+    (shallow_looked c.args.marks.now c.args.g c.args.fewest.now) c.requires.0 c.without_first-rest.ensures
+    c.loop-part.part c.loop-part.invariant c.loop-part-test.true most_members c.requires.1 in
+    (a.0, a.1) in
     (there.0, there.1, c.requires.2, c.requires.3)
 
 pub overflow_add-result : goal.overflow_add-result
 overflow_add-result c =
-    let there : (0 < (c.args.g - c.without_first-rest.result) + c.loop-part.part) × ((c.args.g - c.without_first-rest.result) + c.loop-part.part < c.args.g) = 
-        let a = part_looked_at _ _ c.args.g c.without_first-rest.result
-        (shallow_looked c.args.marks.now c.args.g c.args.fewest.now) c.requires.0 c.without_first-rest.ensures
-        c.loop-part.part c.loop-part.invariant c.loop-part-test.true most_members c.requires.1 in
-        (a.0, a.1) in
+    let there : (0 < (c.args.g - c.without_first-rest.result) + c.loop-part.part) × ((c.args.g - c.without_first-rest.result) + c.loop-part.part < c.args.g) =
+    let a = part_looked_at _ _ c.args.g c.without_first-rest.result
+    (shallow_looked c.args.marks.now c.args.g c.args.fewest.now) c.requires.0 c.without_first-rest.ensures
+    c.loop-part.part c.loop-part.invariant c.loop-part-test.true most_members c.requires.1 in
+    (a.0, a.1) in
     omega (arith, there)

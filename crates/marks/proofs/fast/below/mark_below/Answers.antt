@@ -53,17 +53,17 @@ more_idle-idle-requires c =
 
 pub pass_copies-g-requires : goal.pass_copies-g-requires
 pass_copies-g-requires c =
-    let PassedIn : List ℕ → ℕ → Type 0 = λ marks next. 
-        let a = c.args in
-        Passed a.m a.n (ink_in a.cells.now) a.marks.now c.mark_next-mark.new.counts c.mark_next-mark.new.kept marks c.more_idle-idle.result
-        c.past_of-past.result next in
+    let PassedIn : List ℕ → ℕ → Type 0 = λ marks next.
+    let a = c.args in
+    Passed a.m a.n (ink_in a.cells.now) a.marks.now c.mark_next-mark.new.counts c.mark_next-mark.new.kept marks c.more_idle-idle.result
+    c.past_of-past.result next in
     let below_whole : c.loop-g.g < 2 ^ c.args.n = omega (arith, c.loop-g.invariant.2, c.loop-g-test.true, pow_pos c.args.n) in
     let is_past : (Near c.args.n c.loop-g.g c.past_of-past.result) × (c.loop-g.g < c.past_of-past.result) = c.past_of-past.ensures c.args.n below_whole c.loop-g.invariant.1.near in
-    let group_passed : PassedIn c.put_mark.new.marks (c.loop-g.g + 1) = 
-        let pre = c.requires in
-        passed_next c.loop-g.invariant.1 pre.2 (omega (arith, pre.0.levels)) below_whole
-        is_past
-        c.mark_next-mark.ensures c.put_mark.ensures c.more_idle-idle.ensures in
+    let group_passed : PassedIn c.put_mark.new.marks (c.loop-g.g + 1) =
+    let pre = c.requires in
+    passed_next c.loop-g.invariant.1 pre.2 (omega (arith, pre.0.levels)) below_whole
+    is_past
+    c.mark_next-mark.ensures c.put_mark.ensures c.more_idle-idle.ensures in
     let pre = c.requires in (
       c.loop-g-test.true,
       omega (arith, c.loop-g.invariant.2, pow_mono pre.0.inputs),
@@ -72,43 +72,42 @@ pass_copies-g-requires c =
 
 pub loop-g-smaller : goal.loop-g-smaller
 loop-g-smaller c =
-    let PassedIn : List ℕ → ℕ → Type 0 = λ marks next. 
-        let a = c.args in
-        Passed a.m a.n (ink_in a.cells.now) a.marks.now c.mark_next-mark.new.counts c.mark_next-mark.new.kept marks c.more_idle-idle.result
-        c.past_of-past.result next in
+    let PassedIn : List ℕ → ℕ → Type 0 = λ marks next.
+    let a = c.args in
+    Passed a.m a.n (ink_in a.cells.now) a.marks.now c.mark_next-mark.new.counts c.mark_next-mark.new.kept marks c.more_idle-idle.result
+    c.past_of-past.result next in
     let below_whole : c.loop-g.g < 2 ^ c.args.n = omega (arith, c.loop-g.invariant.2, c.loop-g-test.true, pow_pos c.args.n) in
     let is_past : (Near c.args.n c.loop-g.g c.past_of-past.result) × (c.loop-g.g < c.past_of-past.result) = c.past_of-past.ensures c.args.n below_whole c.loop-g.invariant.1.near in
-    let group_passed : PassedIn c.put_mark.new.marks (c.loop-g.g + 1) = 
-        let pre = c.requires in
-        passed_next c.loop-g.invariant.1 pre.2 (omega (arith, pre.0.levels)) below_whole
-        is_past
-        c.mark_next-mark.ensures c.put_mark.ensures c.more_idle-idle.ensures in
-    let copies_passed : let next = c.pass_copies-g.result in (c.loop-g.g < next) × (next ≤ c.power-end.result - 1) × PassedIn c.pass_copies-g.new.marks next = 
-        let pre = c.requires in
-        passed_copies (omega (arith, pre.0.levels)) pre.2 group_passed is_past.1 c.loop-g-test.true
-        (omega (arith, c.loop-g.invariant.2)) c.pass_copies-g.auto.marks c.pass_copies-g.ensures in
+    let group_passed : PassedIn c.put_mark.new.marks (c.loop-g.g + 1) =
+    let pre = c.requires in
+    passed_next c.loop-g.invariant.1 pre.2 (omega (arith, pre.0.levels)) below_whole
+    is_past
+    c.mark_next-mark.ensures c.put_mark.ensures c.more_idle-idle.ensures in
+    let copies_passed : let next = c.pass_copies-g.result in (c.loop-g.g < next) × (next ≤ c.power-end.result - 1) × PassedIn c.pass_copies-g.new.marks next =
+    let pre = c.requires in
+    passed_copies (omega (arith, pre.0.levels)) pre.2 group_passed is_past.1 c.loop-g-test.true
+    (omega (arith, c.loop-g.invariant.2)) c.pass_copies-g.auto.marks c.pass_copies-g.ensures in
     let did = copies_passed in omega (arith, did.0, did.1)
 
 pub loop-g-preserved : goal.loop-g-preserved
 loop-g-preserved c =
-    let PassedIn : List ℕ → ℕ → Type 0 = λ marks next. 
-        let a = c.args in
-        Passed a.m a.n (ink_in a.cells.now) a.marks.now c.mark_next-mark.new.counts c.mark_next-mark.new.kept marks c.more_idle-idle.result
-        c.past_of-past.result next in
+    let PassedIn : List ℕ → ℕ → Type 0 = λ marks next.
+    let a = c.args in
+    Passed a.m a.n (ink_in a.cells.now) a.marks.now c.mark_next-mark.new.counts c.mark_next-mark.new.kept marks c.more_idle-idle.result
+    c.past_of-past.result next in
     let below_whole : c.loop-g.g < 2 ^ c.args.n = omega (arith, c.loop-g.invariant.2, c.loop-g-test.true, pow_pos c.args.n) in
     let is_past : (Near c.args.n c.loop-g.g c.past_of-past.result) × (c.loop-g.g < c.past_of-past.result) = c.past_of-past.ensures c.args.n below_whole c.loop-g.invariant.1.near in
-    let group_passed : PassedIn c.put_mark.new.marks (c.loop-g.g + 1) = 
-        let pre = c.requires in
-        passed_next c.loop-g.invariant.1 pre.2 (omega (arith, pre.0.levels)) below_whole
-        is_past
-        c.mark_next-mark.ensures c.put_mark.ensures c.more_idle-idle.ensures in
-    let copies_passed : let next = c.pass_copies-g.result in (c.loop-g.g < next) × (next ≤ c.power-end.result - 1) × PassedIn c.pass_copies-g.new.marks next = 
-        let pre = c.requires in
-        passed_copies (omega (arith, pre.0.levels)) pre.2 group_passed is_past.1 c.loop-g-test.true
-        (omega (arith, c.loop-g.invariant.2)) c.pass_copies-g.auto.marks c.pass_copies-g.ensures in
+    let group_passed : PassedIn c.put_mark.new.marks (c.loop-g.g + 1) =
+    let pre = c.requires in
+    passed_next c.loop-g.invariant.1 pre.2 (omega (arith, pre.0.levels)) below_whole
+    is_past
+    c.mark_next-mark.ensures c.put_mark.ensures c.more_idle-idle.ensures in
+    let copies_passed : let next = c.pass_copies-g.result in (c.loop-g.g < next) × (next ≤ c.power-end.result - 1) × PassedIn c.pass_copies-g.new.marks next =
+    let pre = c.requires in
+    passed_copies (omega (arith, pre.0.levels)) pre.2 group_passed is_past.1 c.loop-g-test.true
+    (omega (arith, c.loop-g.invariant.2)) c.pass_copies-g.auto.marks c.pass_copies-g.ensures in
     let did = copies_passed in
-    let long = c.loop-g.invariant.0 in
-    (
+    let long = c.loop-g.invariant.0 in (
       record {
         for_counts = c.mark_next-mark.auto.counts ∙ long.for_counts;
         for_kept = c.mark_next-mark.auto.kept ∙ long.for_kept;

@@ -16,23 +16,23 @@ member_of-requires c =
 pub copy_marks-requires : goal.copy_marks-requires
 copy_marks-requires c =
     let fits : (0 < c.args.g) × (c.args.g < groups_end) = (omega (arith, c.if-g-eq0.false), omega (arith, c.requires)) in
-    let less : c.without_first-rest.result < c.args.g = 
-        let g = c.args.g in
-        let (some, g<) = fits in
-        omega (arith, c.without_first-rest.ensures most_members g<, (without_first most_members g some g<).0, pow_pos (first_input most_members g)) in
-    let above : c.args.g < c.lower-next.result = 
-        c.lower-next.ensures.2 c.args.g (omega (arith, less)) c.requires.0 in
+    let less : c.without_first-rest.result < c.args.g =
+    let g = c.args.g in
+    let (some, g<) = fits in
+    omega (arith, c.without_first-rest.ensures most_members g<, (without_first most_members g some g<).0, pow_pos (first_input most_members g)) in
+    let above : c.args.g < c.lower-next.result =
+    c.lower-next.ensures.2 c.args.g (omega (arith, less)) c.requires.0 in
     omega (arith, above, less, c.lower-next.ensures.0, c.lower-next.ensures.1, c.requires)
 
 pub returns-then-member_of : goal.returns-then-member_of
 returns-then-member_of c =
     let fits : (0 < c.args.g) × (c.args.g < groups_end) = (omega (arith, c.if-g-eq0.false), omega (arith, c.requires)) in
-    let less : c.without_first-rest.result < c.args.g = 
-        let g = c.args.g in
-        let (some, g<) = fits in
-        omega (arith, c.without_first-rest.ensures most_members g<, (without_first most_members g some g<).0, pow_pos (first_input most_members g)) in
-    let above : c.args.g < c.lower-next.result = 
-        c.lower-next.ensures.2 c.args.g (omega (arith, less)) c.requires.0 in
+    let less : c.without_first-rest.result < c.args.g =
+    let g = c.args.g in
+    let (some, g<) = fits in
+    omega (arith, c.without_first-rest.ensures most_members g<, (without_first most_members g some g<).0, pow_pos (first_input most_members g)) in
+    let above : c.args.g < c.lower-next.result =
+    c.lower-next.ensures.2 c.args.g (omega (arith, less)) c.requires.0 in
     some_copied c.first_of.result c.without_first-rest.result fits.0
     (λ n g<. (c.first_of.ensures n g<, c.without_first-rest.ensures n g<))
     (sym c.member_of.ensures ∙ c.if-member_of.true) above c.lower-next.ensures.0 c.lower-next.ensures.1
@@ -44,41 +44,41 @@ returns-then-g-eq0 c = none_copied (omega (arith, c.if-g-eq0.true)) refl
 pub overflow_sub-g : goal.overflow_sub-g
 overflow_sub-g c =
     let fits : (0 < c.args.g) × (c.args.g < groups_end) = (omega (arith, c.if-g-eq0.false), omega (arith, c.requires)) in
-    let less : c.without_first-rest.result < c.args.g = 
-        let g = c.args.g in
-        let (some, g<) = fits in
-        omega (arith, c.without_first-rest.ensures most_members g<, (without_first most_members g some g<).0, pow_pos (first_input most_members g)) in
+    let less : c.without_first-rest.result < c.args.g =
+    let g = c.args.g in
+    let (some, g<) = fits in
+    omega (arith, c.without_first-rest.ensures most_members g<, (without_first most_members g some g<).0, pow_pos (first_input most_members g)) in
     omega (arith, less)
 
 pub overflow_add-rest : goal.overflow_add-rest
 overflow_add-rest c =
     let fits : (0 < c.args.g) × (c.args.g < groups_end) = (omega (arith, c.if-g-eq0.false), omega (arith, c.requires)) in
-    let less : c.without_first-rest.result < c.args.g = 
-        let g = c.args.g in
-        let (some, g<) = fits in
-        omega (arith, c.without_first-rest.ensures most_members g<, (without_first most_members g some g<).0, pow_pos (first_input most_members g)) in
+    let less : c.without_first-rest.result < c.args.g =
+    let g = c.args.g in
+    let (some, g<) = fits in
+    omega (arith, c.without_first-rest.ensures most_members g<, (without_first most_members g some g<).0, pow_pos (first_input most_members g)) in
     omega (arith, less)
 
 pub overflow_sub-next : goal.overflow_sub-next
 overflow_sub-next c =
     let fits : (0 < c.args.g) × (c.args.g < groups_end) = (omega (arith, c.if-g-eq0.false), omega (arith, c.requires)) in
-    let less : c.without_first-rest.result < c.args.g = 
-        let g = c.args.g in
-        let (some, g<) = fits in
-        omega (arith, c.without_first-rest.ensures most_members g<, (without_first most_members g some g<).0, pow_pos (first_input most_members g)) in
-    let above : c.args.g < c.lower-next.result = 
-        c.lower-next.ensures.2 c.args.g (omega (arith, less)) c.requires.0 in
+    let less : c.without_first-rest.result < c.args.g =
+    let g = c.args.g in
+    let (some, g<) = fits in
+    omega (arith, c.without_first-rest.ensures most_members g<, (without_first most_members g some g<).0, pow_pos (first_input most_members g)) in
+    let above : c.args.g < c.lower-next.result =
+    c.lower-next.ensures.2 c.args.g (omega (arith, less)) c.requires.0 in
     omega (arith, above)
 
 pub overflow_sub-next-then-member_of : goal.overflow_sub-next-then-member_of
 overflow_sub-next-then-member_of c =
     let fits : (0 < c.args.g) × (c.args.g < groups_end) = (omega (arith, c.if-g-eq0.false), omega (arith, c.requires)) in
-    let less : c.without_first-rest.result < c.args.g = 
-        let g = c.args.g in
-        let (some, g<) = fits in
-        omega (arith, c.without_first-rest.ensures most_members g<, (without_first most_members g some g<).0, pow_pos (first_input most_members g)) in
-    let above : c.args.g < c.lower-next.result = 
-        c.lower-next.ensures.2 c.args.g (omega (arith, less)) c.requires.0 in
+    let less : c.without_first-rest.result < c.args.g =
+    let g = c.args.g in
+    let (some, g<) = fits in
+    omega (arith, c.without_first-rest.ensures most_members g<, (without_first most_members g some g<).0, pow_pos (first_input most_members g)) in
+    let above : c.args.g < c.lower-next.result =
+    c.lower-next.ensures.2 c.args.g (omega (arith, less)) c.requires.0 in
     omega (arith, above)
 
 pub returns : goal.returns

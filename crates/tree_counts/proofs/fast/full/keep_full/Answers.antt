@@ -51,16 +51,15 @@ loop-part-preserved c =
     let small : part < 2 ^ most_inputs = omega (arith, part_le, group.below) in
     let has_two : mark_in marks part ≡ 2 = omega (arith, c.mark_at.ensures, c.if-mark_at-ne2.false) in
     let twos : TwosTo marks g part = twos_next marks g c.loop-part.part part c.next_part-part.ensures has_two c.loop-part.invariant.3 in
-    let is_count : (k : ℕ) → part < 2 ^ k → c.trees_on-count.result ≡ group_trees k marks part = λ k part<. 
-        c.trees_on-count.ensures
-        ∙ ap trees_on (c.members_of.ensures k part<)
-        ∙ full_count marks part (omega (arith, c.next_part-part.ensures.above)) small
-        (last_full marks g part small c.next_part-part.ensures.part twos) k part< in
-    (
-          length-set counts part c.trees_on-count.result ∙ c.loop-part.invariant.0,
-          one_kept marks counts part c.trees_on-count.result c.loop-part.invariant.1 has_room is_count,
-          passed_next g c.loop-part.part part c.loop-part-test.true c.next_part-part.ensures,
-          twos,
+    let is_count : (k : ℕ) → part < 2 ^ k → c.trees_on-count.result ≡ group_trees k marks part = λ k part<.
+    c.trees_on-count.ensures
+    ∙ ap trees_on (c.members_of.ensures k part<)
+    ∙ full_count marks part (omega (arith, c.next_part-part.ensures.above)) small
+    (last_full marks g part small c.next_part-part.ensures.part twos) k part< in (
+      length-set counts part c.trees_on-count.result ∙ c.loop-part.invariant.0,
+      one_kept marks counts part c.trees_on-count.result c.loop-part.invariant.1 has_room is_count,
+      passed_next g c.loop-part.part part c.loop-part-test.true c.next_part-part.ensures,
+      twos,
     )
 
 pub returns : goal.returns

@@ -29,21 +29,21 @@ returns c =
 
 pub overflow_mul-start : goal.overflow_mul-start
 overflow_mul-start c =
-    let within : let a = c.args in c.loop-k.k * a.block + a.block ≤ length a.cells.now = 
-        let a = c.args in
-        omega (arith, block_within c.loop-k.k a.blocks a.block c.loop-k-test.true) in
+    let within : let a = c.args in c.loop-k.k * a.block + a.block ≤ length a.cells.now =
+    let a = c.args in
+    omega (arith, block_within c.loop-k.k a.blocks a.block c.loop-k-test.true) in
     omega (arith, within)
 
 pub overflow_add-start : goal.overflow_add-start
 overflow_add-start c =
-    let within : let a = c.args in c.loop-k.k * a.block + a.block ≤ length a.cells.now = 
-        let a = c.args in
-        omega (arith, block_within c.loop-k.k a.blocks a.block c.loop-k-test.true) in
+    let within : let a = c.args in c.loop-k.k * a.block + a.block ≤ length a.cells.now =
+    let a = c.args in
+    omega (arith, block_within c.loop-k.k a.blocks a.block c.loop-k-test.true) in
     omega (arith, within)
 
 pub same_runs-requires : goal.same_runs-requires
 same_runs-requires c =
-    let within : let a = c.args in c.loop-k.k * a.block + a.block ≤ length a.cells.now = 
-        let a = c.args in
-        omega (arith, block_within c.loop-k.k a.blocks a.block c.loop-k-test.true) in
+    let within : let a = c.args in c.loop-k.k * a.block + a.block ≤ length a.cells.now =
+    let a = c.args in
+    omega (arith, block_within c.loop-k.k a.blocks a.block c.loop-k-test.true) in
     omega (arith, within)
