@@ -18,7 +18,7 @@ report = []
 
 
 def norm(s):
-    return s.replace("-", "_")
+    return re.sub(r"_(lem|of)$", "", s.replace("-", "_").lower()) if s.endswith(("_lem",)) else s.replace("-", "_").lower()
 
 
 class Fn:
@@ -40,8 +40,8 @@ class Fn:
 
     def canon(self, i):
         """The place itself, for one of its points before a read."""
-        if i is None:
-            return None
+        if i is None or i == "?":
+            return i
         return self.index.get(norm(re.sub(r"-unread(-\d+)?$", "", self.places[i][0])), i)
 
     def parent(self, i):
@@ -50,7 +50,7 @@ class Fn:
 
     def need(self, old):
         o = norm(old)
-        for cand in (o, re.sub(r"^overflow_", "", o)):
+        for cand in (o, re.sub(r"^(overflow|nonzero)_", "", o)):
             for k, (a, b) in enumerate(self.needs):
                 if norm(a) == cand:
                     return k
@@ -76,7 +76,7 @@ def chunks(text):
     """Top-level chunks: each starts at a line that is not indented."""
     out, cur = [], []
     for line in text.split("\n"):
-        if line and not line[0].isspace() and cur:
+        if line and not line[0].isspace() and line[0] not in ")]}" and cur:
             out.append("\n".join(cur))
             cur = []
         cur.append(line)
@@ -189,6 +189,7 @@ class Turn:
         self.navs = {}      # name -> (from place, to place)
         self.macros = {}    # name -> decl, for lemmas over places that no goal is asked at
         self.members = set()
+        self.used = set()
         self.inner = {}
         self.rename = {}
 
@@ -196,7 +197,7 @@ class Turn:
         m = re.match(r"^\(?" + PLACE + r"(?:\s.*)?$", ty.strip())
         if not m:
             return None
-        return self.fn.index.get(norm(m[1]))
+        return self.fn.index.get(norm(m[1]), "?")
 
     # ---- record expressions
     def atom(self, T, i, env):
@@ -227,10 +228,10 @@ class Turn:
 
     def climb(self, j, root, place, fields):
         while fields and fields[0] == "before":
-            place = self.fn.parent(place)
+            place = "?" if place == "?" else self.fn.parent(place)
             fields = fields[1:]
             if place is None:
-                return None
+                place = "?"
         return j, root, place, fields
 
     def skip(self, T, i):
@@ -252,7 +253,7 @@ class Turn:
         out = []
         k = 0
         if rest:
-            f0 = {"taken": "true", "left": "false"}.get(rest[0], rest[0])
+            f0 = {"taken": "true", "left": "false"}.get(rest[0], rest[0]) if re.match(r"if|.*-test$", p[2][0]) else rest[0]
             for a, b in p[4]:
                 if norm(a) == norm(f0) or norm(a) == norm(rest[0]):
                     return [b] + rest[1:]
@@ -260,7 +261,7 @@ class Turn:
             f = rest[k]
             if f == "taken":
                 f = "true"
-            elif f == "left":
+            elif f == "left" and k == 0 and (p[2][0].startswith("if") or p[2][0].endswith("-test")):
                 f = "false"
             elif f == "inv" and k == 0:
                 f = "invariant"
@@ -283,12 +284,14 @@ class Turn:
 
     def find(self, top, place, f):
         """The place of the step named f: here, else the nearest above, else below on the way to the root."""
-        q = place
-        while q is not None:
+        q = top if place == "?" else place
+        while q is not None and q != "?":
             if norm(self.fn.places[q][2][0]) == norm(f):
                 return q
             q = self.fn.parent(q)
         q, best = top, None
+        if top == "?":
+            return None
         while q is not None and q != place:
             if norm(self.fn.places[q][2][0]) == norm(f):
                 best = q
@@ -305,12 +308,12 @@ class Turn:
         return ".".join([name, self.fn.places[q][2][1]] + self.step_rest(q, rest))
 
     def write(self, root, place, fields, need):
-        p = self.fn.places[place]
+        p = self.fn.places[place] if place != "?" else ["?", None, ["?", "?"]]
         if not fields:
             if place == root[1]:
                 return root[0]
-            report.append(f"{self.path}: bare record above {root[0]} in {need}: {self.fn.newname[place]}")
-            return f"{root[0]}.{self.fn.newname[place]}"
+            report.append(f"{self.path}: bare record above {root[0]} in {need}: {p[0]}")
+            return f"{root[0]}"
         f, rest = fields[0], fields[1:]
         q = self.find(root[1], place, f)
         if q is not None:
@@ -343,6 +346,11 @@ class Turn:
                                 i = self.skip(T, e2 + 1)
                                 continue
                             q = self.find(root[1], place, fields[0])
+                            if q is not None and len(fields) > 2 and fields[1] in ("kept", "last", "new", "auto") and set(fields[2:]) == {"1"} \
+                                    and self.fn.places[q][3] in self.fn.params:
+                                env[name] = ("tup", root, q, fields[1], len(fields) - 2)
+                                i = self.skip(T, e2 + 1)
+                                continue
                             if len(fields) == 1 and q is not None:
                                 env[name] = ("step", root, q)
                             else:
@@ -355,16 +363,15 @@ class Turn:
             if t in self.macros:
                 j = self.skip(T, i + 1)
                 r = self.atom(T, j, env)
-                if r is not None and not r[3] and self.fn.canon(r[2]) == self.fn.canon(self.macros[t]["place"]):
+                if r is not None and not r[3]:
+                    self.used.add(t)
                     out.append(t)
                     i = r[0]
                     continue
-                if t not in self.members:
-                    report.append(f"{self.path}: use of {t} not understood: {''.join(T[i:i + 8])}")
                 out.append(t)
                 i += 1
                 continue
-            if t.split(".")[0] in self.macros and "." in t and not t.endswith("."):
+            if t.split(".")[0] in self.macros and t.split(".")[0] not in env and "." in t and not t.endswith("."):
                 out.append(t)
                 i += 1
                 continue
@@ -374,10 +381,16 @@ class Turn:
                 if j < len(T) and T[j] in self.macros:
                     k = self.skip(T, j + 1)
                     r = self.atom(T, k, env)
-                    if r is not None and not r[3] and self.fn.canon(r[2]) == self.fn.canon(self.macros[T[j]]["place"]) and r[0] < len(T) and T[r[0]] == ")":
+                    if r is not None and not r[3] and r[0] < len(T) and T[r[0]] == ")":
+                        self.used.add(T[j])
                         out.append(T[j])
                         i = r[0] + 1
                         continue
+            j = self.skip(T, i + 1)
+            if t in env and j < len(T) and T[j] == "=":
+                out.append(t)
+                i += 1
+                continue
             r = self.expr(T, i, env)
             if r is not None:
                 j, root, place, fields = r
@@ -385,6 +398,11 @@ class Turn:
                 i = j
                 continue
             parts = t.split(".")
+            if parts[0] in env and env[parts[0]][0] == "tup" and len(parts) > 1:
+                _, root, q, kind, n = env[parts[0]]
+                out.append(self.at_step(root[0], q, [kind] + ["1"] * n + parts[1:]))
+                i += 1
+                continue
             if parts[0] in env and env[parts[0]][0] == "step" and len(parts) > 1 and not t.endswith("."):
                 out.append(".".join([parts[0]] + self.step_rest(env[parts[0]][2], parts[1:])))
                 i += 1
@@ -408,7 +426,9 @@ def with_lets(lets, body):
     lets = [re.sub(r"not-false _ ([^\s(){},;]+)\.false-raw", r"\1.false", x) for x in lets]
     if not lets:
         return body
-    return "    " + "\n    ".join(lets) + "\n" + (body if body.startswith(" ") else "    " + body)
+    if not body.startswith(" "):
+        body = "    " + "\n".join(("    " + x if k and x.strip() else x) for k, x in enumerate(body.split("\n")))
+    return "    " + "\n    ".join(lets) + "\n" + body
 
 
 def main():
@@ -464,6 +484,21 @@ def spec_args(body):
 def one(crate, path, folder, proof, fn, module):
     text = open(proof, encoding="utf-8").read()
     top, uses, decls = parse(text)
+    alias = {}
+    for d in decls:
+        if d.name and d.sig.strip() == "Type 0" and d.clauses:
+            _, b = split_clause(d.clauses[0])
+            if re.match(r"^" + PLACE, b.strip()):
+                alias[d.name] = b.strip()
+    if alias:
+        def real(s):
+            for a in sorted(alias, key=lambda z: -len(z)):
+                s = re.sub(r"(?<![^\s()])" + re.escape(a) + r"(?![^\s()])", lambda _: alias[a], s)
+            return s
+        decls = [d for d in decls if d.name not in alias]
+        for d in decls:
+            d.sig = real(d.sig)
+            d.raw = re.sub(r"(?m)(^module _ .*$|^  .* : .*$)", lambda m: real(m[0]), d.raw)
     turn = Turn(fn, path)
     invariants, answers = [], []
     # navigation
@@ -529,6 +564,7 @@ def one(crate, path, folder, proof, fn, module):
                         need_of[a] = new
             for a, k in known.items():
                 need_of[a] = fn.needs[k][1]
+    gone = set()
     for d in rest:
         mm = d.name and re.match(r"^tie\.Need-(\S+)", d.sig)
         if mm and d.name not in need_of:
@@ -536,7 +572,9 @@ def one(crate, path, folder, proof, fn, module):
             if k is not None:
                 need_of[d.name] = fn.needs[k][1]
             else:
-                report.append(f"{path}: no goal for {d.name} : {d.sig}")
+                if "same-length" not in d.sig and "same_length" not in d.sig:
+                    report.append(f"{path}: no goal for {d.name} : {d.sig}")
+                gone.add(d.name)
     asked = {b: a for (a0, b), (_, a) in zip(fn.needs, fn.asked)}
     turn.rename = {a: b for a, b in need_of.items() if a != b}
     lets = set()
@@ -598,14 +636,34 @@ def one(crate, path, folder, proof, fn, module):
         turn.macros[d.name]["first"] = turn.macros[d.name]["names"].pop(0)
     rest = more
 
+    def clause_env(pats, ps):
+        """Names of the record parameters of a clause."""
+        explicit = [q for q in ps if not q[2]]
+        toks = [p for p in pats.split() if not p.startswith("{")]
+        env = {}
+        for (n, ty, imp), pat in zip(explicit, toks):
+            pl = turn.place_of(ty)
+            if pl is not None:
+                env[pat] = ("rec", (pat, pl), pl)
+        return env
+
     def words(text):
         return {x.split(".")[0] for x in TOK.findall(text)}
 
-    def needed_macros(text, got):
-        for w in sorted(words(text) & set(turn.macros)):
-            if w not in got:
+    def needed_macros(text, got, env, inside=()):
+        turn.used = set()
+        n = len(report)
+        turn.text(text, env, None)
+        del report[n:]
+        for w in sorted(turn.used | (words(text) & set(inside))):
+            if w not in got and w in turn.macros:
                 m = turn.macros[w]
-                needed_macros(m["sig"] + " " + m["body"], got)
+                var = list(env)[0]
+                root = env[var][1]
+                e2 = {x: ("rec", root, m["place"]) for x in (m["param"], m.get("first")) if x}
+                if m["members"]:
+                    e2.update({x: ("rec", root, q) for x, q in turn.inner.items()})
+                needed_macros(m["sig"] + " " + m["body"], got, e2 or env, m["members"])
                 got.append(w)
         return got
 
@@ -613,7 +671,8 @@ def one(crate, path, folder, proof, fn, module):
         """The typed lets for the lemmas that a body uses."""
         lines = []
         unf = []
-        for w in needed_macros(body, []):
+        got = needed_macros(body, [], {var: ("rec", (var, pl), pl)})
+        for w in got:
             m = turn.macros[w]
             envs = {}
             if m["param"]:
@@ -637,6 +696,10 @@ def one(crate, path, folder, proof, fn, module):
 
     out_inv, out_ans, helpers = [], [], []
     for d in rest:
+        if d.name in gone:
+            continue
+        if not d.name and d.raw.strip() in (")", "]", "}"):
+            continue
         if not d.name:
             out_ans.append((d.comment, d.raw))
             if "tie." in d.raw:
@@ -767,13 +830,33 @@ def one(crate, path, folder, proof, fn, module):
                 got.append(n)
         return f"{m[1] or ''}use {m[2]}.{{{', '.join(got)}}}" if got else None
 
+    moved_names = []
+
     def emit(name, items, link):
         body = "\n\n".join((c + "\n" if c else "") + t for c, t in items)
-        us = [x for x in (needed(u, body) for u in keep) if x]
+        us = [x for x in (needed(u, body) for u in keep if not (name == "Invariants.antt" and ".Invariants." in u)) if x]
         us.append(f"use {base}.{link} as goal")
         head = top if top else ""
         open(os.path.join(folder, name), "w", encoding="utf-8").write((head + "\n" if head else "") + "\n".join(us) + "\n\n" + body + "\n")
 
+    # definitions that the invariants use stand beside them
+    moved = []
+    inv_text = " ".join(x for _, x in out_inv)
+    again = bool(out_inv)
+    while again:
+        again = False
+        for item in list(out_ans):
+            m = re.match(r"^((?:abbrev |unfoldable |pub )*)([^\s:]+) : (?!goal\.)", item[1])
+            if m and m[2] in words(inv_text) and "goal." not in item[1]:
+                out_ans.remove(item)
+                mods = m[1] if "pub" in m[1] else m[1] + "pub "
+                moved.insert(0, (item[0], mods + item[1][len(m[1]):]))
+                moved_names.append(m[2])
+                inv_text += " " + item[1]
+                again = True
+    if moved:
+        keep.append(f"use {base}.Invariants.{{{', '.join(moved_names)}}}")
+    out_inv = moved + out_inv
     os.remove(proof)
     if out_inv:
         emit("Invariants.antt", out_inv, "Given")

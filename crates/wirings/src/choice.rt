@@ -7,7 +7,7 @@ use crate::shallow_split;
 use marks::split;
 
 // The settled wiring, or the shallow one.
-#[derive(Drop)]
+#[derive(Clone, Copy)]
 pub enum Choice {
     Settled,
     Shallow,

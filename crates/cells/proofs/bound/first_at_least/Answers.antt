@@ -1,5 +1,5 @@
 -- `cells::bound::first_at_least` meets its contract. The loop's invariant: every cell so far is below the bound. Assumes nothing.
-use Rattle.laws.specs.Prelude.{◌-◌, arith}
+use Rattle.laws.specs.Prelude.{arith}
 use borrow.Author.Count.{below_more}
 use Rattle.cells.proofs.bound.first_at_least.Goals as goal
 

@@ -1,5 +1,5 @@
 -- `cells::bound::some_at_least` meets its contract. The loop's invariant: if none is found so far, every cell so far is below the bound. Assumes nothing.
-use Rattle.laws.specs.Prelude.{◌-◌, refl, ⊎_elim, arith, eqb-true, not-false}
+use Rattle.laws.specs.Prelude.{refl, arith, eqb-true, not-false}
 use borrow.Author.Count.{below_more}
 use Rattle.cells.proofs.bound.some_at_least.Goals as goal
 use Rattle.cells.proofs.bound.some_at_least.Goals.{then-least-cells, else-least-cells}

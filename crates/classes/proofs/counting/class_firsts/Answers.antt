@@ -53,8 +53,8 @@ loop-i-preserved-then-in_chain c =
 pub loop-i-preserved : goal.loop-i-preserved
 loop-i-preserved c =
     let fewer : c.loop-i.count < c.args.enough = omega (arith, c.loop-i.invariant.3.few, c.if-count-enough.false) in
-    let has_head : c.key-key.result < length c.loop-i.heads = 
-        omega (arith, c.key-key.ensures, c.requires.6 (get_or c.args.xs.now c.loop-i.i 0), c.loop-i.invariant.2) in
+    let has_head : c.key-key.result < length c.loop-i.heads =
+    omega (arith, c.key-key.ensures, c.requires.6 (get_or c.args.xs.now c.loop-i.i 0), c.loop-i.invariant.2) in
     let p : ℕ = get_or c.args.xs.now c.loop-i.i 0 in
     let is_new_lem : c.in_chain.result ≡ false → c.loop-i.count ≡ first_place (alike_over (ink_in c.args.cells.now) c.args.ys.now p) (take c.loop-i.count c.loop-i.firsts) = unknown _ _ _ _ c.loop-i.invariant.4 p _ c.key-key.ensures (omega (arith, c.loop-i.invariant.3.few, c.loop-i.invariant.3.room)) c.in_chain.ensures in
     let room : (c.loop-i.count < length c.loop-i.firsts) × (c.loop-i.count < length c.loop-i.links) × (c.loop-i.count < 4096) = omega (arith, fewer, c.loop-i.invariant.3.room, c.loop-i.invariant.1, c.requires.2, c.requires.3) in
@@ -75,14 +75,14 @@ overflow_cast-p c = omega (arith, c.shared_slice_known-in-loop-i-1.given c.loop-
 
 pub offset_bounds-heads-key : goal.offset_bounds-heads-key
 offset_bounds-heads-key c =
-    let has_head : c.key-key.result < length c.loop-i.heads = 
-        omega (arith, c.key-key.ensures, c.requires.6 (get_or c.args.xs.now c.loop-i.i 0), c.loop-i.invariant.2) in
+    let has_head : c.key-key.result < length c.loop-i.heads =
+    omega (arith, c.key-key.ensures, c.requires.6 (get_or c.args.xs.now c.loop-i.i 0), c.loop-i.invariant.2) in
     omega (arith, has_head)
 
 pub bounds-heads-key : goal.bounds-heads-key
 bounds-heads-key c =
-    let has_head : c.key-key.result < length c.loop-i.heads = 
-        omega (arith, c.key-key.ensures, c.requires.6 (get_or c.args.xs.now c.loop-i.i 0), c.loop-i.invariant.2) in
+    let has_head : c.key-key.result < length c.loop-i.heads =
+    omega (arith, c.key-key.ensures, c.requires.6 (get_or c.args.xs.now c.loop-i.i 0), c.loop-i.invariant.2) in
     has_head
 
 pub offset_bounds-firsts-count : goal.offset_bounds-firsts-count
@@ -123,14 +123,14 @@ overflow_cast-heads c =
 
 pub offset_bounds-heads-key-else-in_chain : goal.offset_bounds-heads-key-else-in_chain
 offset_bounds-heads-key-else-in_chain c =
-    let has_head : c.key-key.result < length c.loop-i.heads = 
-        omega (arith, c.key-key.ensures, c.requires.6 (get_or c.args.xs.now c.loop-i.i 0), c.loop-i.invariant.2) in
+    let has_head : c.key-key.result < length c.loop-i.heads =
+    omega (arith, c.key-key.ensures, c.requires.6 (get_or c.args.xs.now c.loop-i.i 0), c.loop-i.invariant.2) in
     omega (arith, has_head)
 
 pub bounds-heads-key-else-in_chain : goal.bounds-heads-key-else-in_chain
 bounds-heads-key-else-in_chain c =
-    let has_head : c.key-key.result < length c.loop-i.heads = 
-        omega (arith, c.key-key.ensures, c.requires.6 (get_or c.args.xs.now c.loop-i.i 0), c.loop-i.invariant.2) in
+    let has_head : c.key-key.result < length c.loop-i.heads =
+    omega (arith, c.key-key.ensures, c.requires.6 (get_or c.args.xs.now c.loop-i.i 0), c.loop-i.invariant.2) in
     has_head
 
 pub returns : goal.returns

@@ -20,12 +20,11 @@ loop-at-preserved c =
     let inside : c.loop-at.at - 1 < c.args.head = omega (arith, c.loop-at.invariant.0, c.loop-at-test.true) in
     let back : get_or c.args.links.now (c.loop-at.at - 1) 0 ≤ c.loop-at.at - 1 = c.requires.4 (c.loop-at.at - 1) inside in
     let a = c.args in (
-  omega (arith, back, inside),
-  rest_next (alike_over (ink_in a.cells.now) a.ys.now a.p) a.firsts.now a.links.now a.head c.loop-at.at (c.loop-at.at - 1)
-      (omega (arith, c.loop-at-test.true)) c.loop-at.invariant.1
-      (sym c.alike.ensures ∙ c.if-alike.false),
-
-)
+      omega (arith, back, inside),
+      rest_next (alike_over (ink_in a.cells.now) a.ys.now a.p) a.firsts.now a.links.now a.head c.loop-at.at (c.loop-at.at - 1)
+          (omega (arith, c.loop-at-test.true)) c.loop-at.invariant.1
+          (sym c.alike.ensures ∙ c.if-alike.false),
+    )
 
 pub loop-at-init : goal.loop-at-init
 loop-at-init c = (omega arith, λ j h e. h)

@@ -53,13 +53,13 @@ overflow_add-made-in-loop-k c =
 pub loop-k-preserved : goal.loop-k-preserved
 loop-k-preserved c =
     let ink : ℕ = let a = c.args in get_or a.cells.now (a.p + get_or a.ys.now c.loop-k.k 0) 0 in
-    let joins : let l = c.loop-k in let a = c.args in key_from a.m (ink_in a.cells.now) a.p ((l.made * a.m + ink) % 256) (drop (l.k + 1) (take a.width a.ys.now)) ≡ key_of a.m (ink_in a.cells.now) a.ys.now a.width a.p = 
-        let l = c.loop-k in
-        let a = c.args in
-        let columns = take a.width a.ys.now in
-        ap (λ (y : ℕ). key_from a.m (ink_in a.cells.now) a.p ((l.made * a.m + ink_in a.cells.now (a.p + y)) % 256) (drop (l.k + 1) columns))
-        (sym (get_or-take a.width a.ys.now l.k 0 c.loop-k-test.true))
-        ∙ key_next a.m (ink_in a.cells.now) a.p l.made columns l.k
-        (omega (arith, length-take-le a.width a.ys.now c.requires.1, c.loop-k-test.true))
-        ∙ l.invariant.1 in
+    let joins : let l = c.loop-k in let a = c.args in key_from a.m (ink_in a.cells.now) a.p ((l.made * a.m + ink) % 256) (drop (l.k + 1) (take a.width a.ys.now)) ≡ key_of a.m (ink_in a.cells.now) a.ys.now a.width a.p =
+    let l = c.loop-k in
+    let a = c.args in
+    let columns = take a.width a.ys.now in
+    ap (λ (y : ℕ). key_from a.m (ink_in a.cells.now) a.p ((l.made * a.m + ink_in a.cells.now (a.p + y)) % 256) (drop (l.k + 1) columns))
+    (sym (get_or-take a.width a.ys.now l.k 0 c.loop-k-test.true))
+    ∙ key_next a.m (ink_in a.cells.now) a.p l.made columns l.k
+    (omega (arith, length-take-le a.width a.ys.now c.requires.1, c.loop-k-test.true))
+    ∙ l.invariant.1 in
     (omega arith, joins, omega arith)

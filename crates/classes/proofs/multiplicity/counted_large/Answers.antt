@@ -8,7 +8,7 @@ use Rattle.classes.proofs.multiplicity.counted_large.Goals as goal
 
 pub counted-requires : goal.counted-requires
 counted-requires c =
-    let room : (g : ℕ) → c.args.m ^ size c.args.n g ≤ most_cells = λ g. 
-        let fit = sized c.args.m c.args.n c.requires.0.size in
-        le_trans (pow-le-pow_right (omega (arith, fit.levels_least)) (size_le c.args.n g)) fit.cells_most in
+    let room : (g : ℕ) → c.args.m ^ size c.args.n g ≤ most_cells = λ g.
+    let fit = sized c.args.m c.args.n c.requires.0.size in
+    le_trans (pow-le-pow_right (omega (arith, fit.levels_least)) (size_le c.args.n g)) fit.cells_most in
     (c.requires.0, c.requires.1, c.requires.2, room _, room _, omega arith, omega arith, omega arith)

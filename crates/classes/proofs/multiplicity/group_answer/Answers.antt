@@ -17,9 +17,9 @@ power-requires c =
 pub power-requires-2 : goal.power-requires-2
 power-requires-2 c =
     let below : c.args.group < 2 ^ c.args.n = omega (arith, c.power.ensures, c.if-power-group.false) in
-    let members_fit : let a = c.args in (c.members_of-members.result ≡ size a.n a.group) × (size a.n a.group ≤ a.n) × (size a.n (others a.n a.group) ≡ a.n - size a.n a.group) = 
-        let a = c.args in
-        (c.members_of-members.ensures a.n below, size_le a.n a.group, size_others a.n a.group below) in
+    let members_fit : let a = c.args in (c.members_of-members.result ≡ size a.n a.group) × (size a.n a.group ≤ a.n) × (size a.n (others a.n a.group) ≡ a.n - size a.n a.group) =
+    let a = c.args in
+    (c.members_of-members.ensures a.n below, size_le a.n a.group, size_others a.n a.group below) in
     let fit = sized c.args.m c.args.n c.requires.0.size in
     omega (arith, fit.levels_most, fit.inputs_most, members_fit)
 
@@ -32,9 +32,9 @@ pub counted_small-requires : goal.counted_small-requires
 counted_small-requires c =
     let below : c.args.group < 2 ^ c.args.n = omega (arith, c.power.ensures, c.if-power-group.false) in
     let asks : let a = c.args in (FullCells a.m a.n a.cells.now) × (length a.cells.now ≡ a.m ^ a.n) × (a.group < 2 ^ a.n) = let pre = c.requires in (pre.0, pre.1, below) in
-    let members_fit : let a = c.args in (c.members_of-members.result ≡ size a.n a.group) × (size a.n a.group ≤ a.n) × (size a.n (others a.n a.group) ≡ a.n - size a.n a.group) = 
-        let a = c.args in
-        (c.members_of-members.ensures a.n below, size_le a.n a.group, size_others a.n a.group below) in
+    let members_fit : let a = c.args in (c.members_of-members.result ≡ size a.n a.group) × (size a.n a.group ≤ a.n) × (size a.n (others a.n a.group) ≡ a.n - size a.n a.group) =
+    let a = c.args in
+    (c.members_of-members.ensures a.n below, size_le a.n a.group, size_others a.n a.group below) in
     let a = c.args in
     let (is, _, rest) = members_fit in
     let (fit, all, below_end) = asks in (
@@ -72,9 +72,9 @@ returns-then-power-gt-FEW_CELLS c =
 pub overflow_sub-n : goal.overflow_sub-n
 overflow_sub-n c =
     let below : c.args.group < 2 ^ c.args.n = omega (arith, c.power.ensures, c.if-power-group.false) in
-    let members_fit : let a = c.args in (c.members_of-members.result ≡ size a.n a.group) × (size a.n a.group ≤ a.n) × (size a.n (others a.n a.group) ≡ a.n - size a.n a.group) = 
-        let a = c.args in
-        (c.members_of-members.ensures a.n below, size_le a.n a.group, size_others a.n a.group below) in
+    let members_fit : let a = c.args in (c.members_of-members.result ≡ size a.n a.group) × (size a.n a.group ≤ a.n) × (size a.n (others a.n a.group) ≡ a.n - size a.n a.group) =
+    let a = c.args in
+    (c.members_of-members.ensures a.n below, size_le a.n a.group, size_others a.n a.group below) in
     omega (arith, members_fit)
 
 pub counted_large-requires-then-power-gt-FEW_CELLS-2 : goal.counted_large-requires-then-power-gt-FEW_CELLS-2

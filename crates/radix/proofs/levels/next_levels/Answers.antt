@@ -12,12 +12,11 @@ returns-then-l-m c =
     step_up _ c.loop-i.i c.loop-i.levels (omega arith) (omega arith) (omega arith) ∙ c.loop-i.invariant.2
 
 pub loop-i-preserved : goal.loop-i-preserved
-loop-i-preserved c =
-    (
-      simp length-set (omega arith),
-      simp length-set c.loop-i.invariant.1,
-      step_turn _ c.loop-i.i c.loop-i.levels (omega arith) (omega arith) (omega arith) ∙ c.loop-i.invariant.2,
-    )
+loop-i-preserved c = (
+  simp length-set (omega arith),
+  simp length-set c.loop-i.invariant.1,
+  step_turn _ c.loop-i.i c.loop-i.levels (omega arith) (omega arith) (omega arith) ∙ c.loop-i.invariant.2,
+)
 
 pub returns : goal.returns
 returns c = sym (step_none _ c.loop-i.i c.loop-i.levels (omega arith)) ∙ c.loop-i.invariant.2

@@ -61,8 +61,7 @@ pub loop-i-preserved-then-member_of : goal.loop-i-preserved-then-member_of
 loop-i-preserved-then-member_of c =
     let a = c.args in
     let l = c.loop-i in
-    let widen = c.widen-len in
-    (
+    let widen = c.widen-len in (
       widen.auto.out ∙ l.invariant.0,
       built_member a.m a.n a.g c.requires.0 l.out l.len l.w l.i l.invariant.1
           c.loop-i-test.true widen.new.out widen.result

@@ -1,0 +1,24 @@
+-- `representatives::extension::copy` meets its contract. The loop's invariant: `k` numbers are copied; below `b` nothing changed. Assumes nothing.
+use Rattle.laws.specs.Prelude.{ℕ, ◌+◌, ◌-◌, ◌≡◌, ◌∙◌, refl, subst, arith, length-set}
+use Rattle.representatives.specs.Copies.{Copied, copied_next}
+use Rattle.representatives.proofs.extension.copy.Goals as goal
+
+pub loop-k-init : goal.loop-k-init
+loop-k-init c = (omega arith, refl, record { copied = λ j h. absurd (omega arith); below = λ j h. refl })
+
+pub loop-k-preserved : goal.loop-k-preserved
+loop-k-preserved c =
+    let a = c.args in
+    let l = c.loop-k in (
+      omega arith,
+      length-set l.to (a.b + l.k) _ ∙ l.invariant.1,
+      copied_next a.from.now a.a a.to.now a.b l.k l.to (omega arith) _ refl
+          l.invariant.2,
+    )
+
+pub returns : goal.returns
+returns c =
+    let a = c.args in
+    let l = c.loop-k in
+    let all : l.k ≡ a.count = omega arith in
+    subst (λ (k : ℕ). Copied a.from.now a.a a.to.now a.b k l.to) all l.invariant.2
