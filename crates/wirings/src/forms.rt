@@ -7,7 +7,7 @@ use radix::limits::MOST_GATES;
 
 // Which two references each gate joins. References are numbered as in a net: input i is i, from 0, and gate k, from 1, is
 // inputs + k - 1.
-#[derive(Drop)]
+#[derive(Clone, Copy)]
 pub struct Wiring {
     pub gates: usize,
     pub left: [u8; MOST_GATES],

@@ -22,9 +22,6 @@ next_part-part-requires c =
     let group : Countable marks c.args.counts.now g = c.requires in
     (omega (arith, group.below), c.loop-part-test.true, c.loop-part.invariant.2.is_part)
 
-pub returns-then-mark_at-ne2 : goal.returns-then-mark_at-ne2
-returns-then-mark_at-ne2 c = c.loop-part.invariant.1
-
 pub trees_on-count-requires : goal.trees_on-count-requires
 trees_on-count-requires c =
     let part : ℕ = c.next_part-part.result in
@@ -49,7 +46,7 @@ loop-part-preserved c =
     let part_le : part ≤ g = c.next_part-part.ensures.least g c.loop-part-test.true (and_self g) in
     let has_room : part < length counts = omega (arith, part_le, group.room, c.loop-part.invariant.0) in
     let small : part < 2 ^ most_inputs = omega (arith, part_le, group.below) in
-    let has_two : mark_in marks part ≡ 2 = omega (arith, c.mark_at.ensures, c.if-mark_at-ne2.false) in
+    let has_two : mark_in marks part ≡ 2 = omega (arith, c.mark_at.ensures) in
     let twos : TwosTo marks g part = twos_next marks g c.loop-part.part part c.next_part-part.ensures has_two c.loop-part.invariant.3 in
     let is_count : (k : ℕ) → part < 2 ^ k → c.trees_on-count.result ≡ group_trees k marks part = λ k part<.
     c.trees_on-count.ensures
