@@ -27,7 +27,7 @@ is_none none_left_of = true
 -- the returned part of the sheet as a reference: where it points, and its bytes. It has no bytes if no line is left.
 unfoldable pub part_in : Bor (List ℕ) → Turn → (ℕ × ℕ) × List ℕ
 part_in s (gate_at p) = ((s.ref_ptr.0, p.start + s.ref_ptr.1), part_of s.now p)
-part_in s none_left_of = (s.ptr, [])
+part_in s none_left_of = (s.ref_ptr, [])
 
 -- the turn in the code's numbers
 unfoldable pub turn_numbers : Turn → code.Turn

@@ -10,14 +10,14 @@ use answers::outcome::Outcome;
 use net_sheets::reader::net::read_net;
 
 // Where a lister starts on an accepted sheet, or the sheet's refusal.
-#[derive(Drop)]
+#[derive(Clone, Copy)]
 pub enum Opened {
     At(usize),
     Refused { number: usize, place: usize },
 }
 
 // The result of a turn on an accepted sheet, or the sheet's refusal.
-#[derive(Drop)]
+#[derive(Clone, Copy)]
 pub enum Listed {
     Given(Turn),
     Refused { number: usize, place: usize },

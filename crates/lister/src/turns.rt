@@ -4,7 +4,7 @@ ghost use Rattle.lister.specs.Turns.{Says, is_none, part_in, turn_numbers};
 use crate::places::line_end;
 
 // A gate line, given as the part of the sheet that holds it without its line feed, or no line is left.
-#[derive(Drop)]
+#[derive(Clone, Copy)]
 pub enum Turn {
     Line { start: usize, count: usize },
     NoneLeft,

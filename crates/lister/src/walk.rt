@@ -1,5 +1,4 @@
-// The lister as a struct, with thin functions over it: each takes it apart and calls a function of the sheet and the place. Their
-// proofs are walks by hand (proofs/walk/Lister).
+// The lister as a struct, with thin functions over it: each takes it apart and calls a function of the sheet and the place.
 ghost use Rattle.lister.specs.Reached.{Started, TurnedOn};
 ghost use Rattle.lister.specs.Turns.{Says, is_none, part_in};
 
@@ -8,7 +7,7 @@ use crate::places::line_after;
 use crate::turns::{line_at, none_left};
 
 // The sheet that the lister borrows, and the lister's place in it.
-#[derive(Drop)]
+#[derive(Clone, Copy)]
 pub struct Lister<'a> {
     sheet: &'a [u8],
     at: usize,

@@ -16,7 +16,7 @@ which_as Neither = no_sheet
 abbrev pub handed : rules.Which → Bor (List ℕ) → Bor (List ℕ) → (ℕ × ℕ) × List ℕ
 handed first_sheet first second = (first.ref_ptr, first.now)
 handed second_sheet first second = (second.ref_ptr, second.now)
-handed no_sheet first second = (first.ptr, [])
+handed no_sheet first second = (first.ref_ptr, [])
 
 -- its bytes are the definition's
 pub handed_bytes : (first second : Bor (List ℕ)) → (handed (which_of first.now second.now) first second).1 ≡ shallower_call first.now second.now
