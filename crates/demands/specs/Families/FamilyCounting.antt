@@ -1,7 +1,8 @@
 -- Document 02, K3: "One call takes a table sheet with making's cells and marks buffers, no output, and answers the count of the trees." "A table with
 -- no tree gets count 0, never 16." What the count counts is in `FamilySheets`.
 -- Assumes nothing.
-use Rattle.laws.specs.Prelude.{ℕ, ◌<◌, ◌≤◌, ◌^◌, ◌≡◌, ◌∙◌, sym, ap, refl, ◌↔◌, iff_trans, List, [], length}
+use Rattle.std.specs.Prelude.{◌<◌, ◌≤◌, ◌^◌, ◌≡◌, ◌↔◌}
+use Rattle.laws.specs.Prelude.{ℕ, ◌∙◌, sym, ap, refl, iff_trans, List, [], length}
 use Rattle.rules.specs.Calls.Answers.{accepted, refused}
 use Rattle.rules.specs.Calls.FamilyCalls.{count_of_table, family_count_call}
 use Rattle.rules.specs.Calls.OpenCells.{read_full}

@@ -1,7 +1,8 @@
 -- With buffers of the lengths that include/sitgurp.h calls enough, the count call refuses only with its sheet's numbers, and the call for a number
 -- with those and 17.
 -- Assumes nothing.
-use Rattle.laws.specs.Prelude.{ℕ, ◌<◌, ◌≤◌, ◌≡◌, ◌∙◌, sym, refl, List, [], ◌∷◌, le_trans, length, answer_cases}
+use Rattle.std.specs.Prelude.{◌<◌, ◌≤◌, ◌≡◌, ◌∷◌}
+use Rattle.laws.specs.Prelude.{ℕ, ◌∙◌, sym, refl, List, [], le_trans, length, answer_cases}
 use Rattle.rules.specs.Calls.Answers.{Answer, accepted, refused}
 use Rattle.rules.specs.Calls.FamilyCalls.{count_of_table, Counted, family_net, family_count_call, family_tree_call}
 use Rattle.rules.specs.Calls.OpenCells.{read_full}

@@ -1,8 +1,9 @@
 -- Document 02, K3: "The order is by A's number, then A's tree, then B's." Defines the order of two trees by their shapes, without counts, and proves
 -- that the wirings of a group's numbers follow it. Marks are any list here.
 -- Assumes nothing.
-use Rattle.laws.specs.Prelude.{ℕ, ◌<◌, ◌≤◌, ◌+◌, ◌-◌, ◌^◌, suc, ◌*◌, zero, ◌%◌, ◌/◌, ◌≡◌, ◌∙◌, sym, ap, refl, subst, ◌⊎◌, inl, inr, true, false, Bool, cond}
-use Rattle.laws.specs.Prelude.{List, [], ◌∷◌, map, Memᴰ, mem_head, mem_tail, suc-mul, mul-le-mul, mod-lt, div-add-mod', le_refl, dec_lt}
+use Rattle.std.specs.Prelude.{◌<◌, ◌≤◌, ◌+◌, ◌-◌, ◌^◌, ◌*◌, ◌%◌, ◌/◌, ◌≡◌, ◌⊎◌, ◌∷◌}
+use Rattle.laws.specs.Prelude.{ℕ, suc, zero, ◌∙◌, sym, ap, refl, subst, inl, inr, true, false, Bool, cond}
+use Rattle.laws.specs.Prelude.{List, [], map, Memᴰ, mem_head, mem_tail, suc-mul, mul-le-mul, mod-lt, div-add-mod', le_refl, dec_lt}
 use Rattle.laws.specs.Prelude.{ℕ_discrete, arith, by_cases}
 use Rattle.rules.specs.Groups.Groups.{size}
 use Rattle.rules.specs.Lists.{range, those, total}

@@ -1,7 +1,8 @@
 -- Making and the two calls of a family first judge the same: the sheet, then room for the cells and for the marks. So either all three refuse in the
 -- same way and change no buffer, or each continues with the same table.
 -- Assumes nothing.
-use Rattle.laws.specs.Prelude.{ℕ, ◌<◌, ◌≤◌, ◌^◌, ◌≡◌, ◌∙◌, ap, refl, List, [], ◌∷◌, dec_lt, ℕ_discrete, arith, ltb, length, answer_cases, by_cases}
+use Rattle.std.specs.Prelude.{◌<◌, ◌≤◌, ◌^◌, ◌≡◌, ◌∷◌}
+use Rattle.laws.specs.Prelude.{ℕ, ◌∙◌, ap, refl, List, [], dec_lt, ℕ_discrete, arith, ltb, length, answer_cases, by_cases}
 use Rattle.rules.specs.Calls.Answers.{accepted, refused, written}
 use Rattle.rules.specs.Calls.FamilyCalls.{count_of_table, family_net, Counted, family_count_call, after_count, family_tree_call}
 use Rattle.rules.specs.Calls.OpenCells.{read_full}

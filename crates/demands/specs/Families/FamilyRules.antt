@@ -2,7 +2,8 @@
 -- left. The order is by A's number, then A's tree, then B's. Gate tables follow the settled net's rule.", and all "on just these" leaves (K12).
 -- Stated for what is written, without counts.
 -- Assumes nothing.
-use Rattle.laws.specs.Prelude.{ℕ, ◌<◌, ◌^◌, ◌≡◌, ◌∙◌, sym, ap, refl, subst, subst₂, true, false, List, arith}
+use Rattle.std.specs.Prelude.{◌<◌, ◌^◌, ◌≡◌}
+use Rattle.laws.specs.Prelude.{ℕ, ◌∙◌, sym, ap, refl, subst, subst₂, true, false, List, arith}
 use Rattle.rules.specs.Calls.Answers.{accepted, ink_in}
 use Rattle.rules.specs.Calls.FamilyCalls.{count_of_table, family_net, family_tree_call}
 use Rattle.rules.specs.Calls.OpenCells.{read_full}

@@ -3,7 +3,8 @@
 -- The sheets of two numbers have different wirings. Every net on the leaves that has the table is one wiring with what the call for exactly one
 -- number writes, and no other net is.
 -- Assumes nothing.
-use Rattle.laws.specs.Prelude.{ℕ, ◌<◌, ◌≤◌, ◌≡◌, ◌∙◌, sym, ap, subst, subst₂, List, ltb, length}
+use Rattle.std.specs.Prelude.{◌<◌, ◌≤◌, ◌≡◌}
+use Rattle.laws.specs.Prelude.{ℕ, ◌∙◌, sym, ap, subst, subst₂, List, ltb, length}
 use Rattle.rules.specs.Calls.Answers.{accepted, ink_in, written}
 use Rattle.rules.specs.Calls.FamilyCalls.{count_of_table, family_net, family_tree_call}
 use Rattle.rules.specs.Calls.OpenCells.{read_full}

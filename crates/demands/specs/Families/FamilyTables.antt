@@ -2,7 +2,8 @@
 -- table and is on just the table's leaves, its sheet is as long as the settled net's, and number 0 is the settled net. There is a number exactly if
 -- the whole group has mark 2.
 -- Assumes nothing.
-use Rattle.laws.specs.Prelude.{ℕ, ◌<◌, ◌≤◌, ◌+◌, ◌^◌, suc, zero, ◌≡◌, ◌∙◌, ap, refl, ◌↔◌, by_cases, List, mul-le-mul_right, le_trans, le_refl, dec_le, arith}
+use Rattle.std.specs.Prelude.{◌<◌, ◌≤◌, ◌+◌, ◌^◌, ◌≡◌, ◌↔◌}
+use Rattle.laws.specs.Prelude.{ℕ, suc, zero, ◌∙◌, ap, refl, by_cases, List, mul-le-mul_right, le_trans, le_refl, dec_le, arith}
 use Rattle.laws.specs.Prelude.{length}
 use Rattle.rules.specs.Calls.Answers.{ink_in}
 use Rattle.rules.specs.Calls.FamilyCalls.{count_of_table, family_net}

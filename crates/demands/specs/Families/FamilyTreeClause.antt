@@ -2,7 +2,8 @@
 -- wiring. Every wiring that computes the table turns up under just one number". Every tree on just the table's leaves that computes it, whatever its
 -- digits, differs only in which side is left from the tree that the call for exactly one number writes; no tree on other leaves does.
 -- Assumes nothing.
-use Rattle.laws.specs.Prelude.{ℕ, ◌+◌, ◌-◌, ◌≡◌, ◌∙◌, sym, ap, subst, ◌↔◌, List, arith, length}
+use Rattle.std.specs.Prelude.{◌+◌, ◌-◌, ◌≡◌, ◌↔◌}
+use Rattle.laws.specs.Prelude.{ℕ, ◌∙◌, sym, ap, subst, List, arith, length}
 use Rattle.rules.specs.Calls.Answers.{accepted, ink_in}
 use Rattle.rules.specs.Calls.FamilyCalls.{family_net, family_tree_call}
 use Rattle.rules.specs.Calls.OpenCells.{read_full}

@@ -2,7 +2,8 @@
 -- "order number not below the count, place the number, judged after 14 and before 15; it takes the place of 16 in the second call and leaves what 16
 -- leaves." For every other number the call has the same result as making, except for the sheet; for number 0 exactly the same result.
 -- Assumes nothing.
-use Rattle.laws.specs.Prelude.{ℕ, ◌≤◌, ◌≡◌, ◌∙◌, sym, ap, refl, ◌↔◌, List, [], ◌∷◌, arith}
+use Rattle.std.specs.Prelude.{◌≤◌, ◌≡◌, ◌↔◌, ◌∷◌}
+use Rattle.laws.specs.Prelude.{ℕ, ◌∙◌, sym, ap, refl, List, [], arith}
 use Rattle.rules.specs.Calls.Answers.{Answer, accepted, refused, written}
 use Rattle.rules.specs.Calls.FamilyCalls.{count_of_table, family_net, family_count_call, family_tree_call}
 use Rattle.rules.specs.Calls.Settling.{settled_net, written_sheet, make_call}

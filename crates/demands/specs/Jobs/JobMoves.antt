@@ -1,7 +1,8 @@
 -- The job after any list of steps and questions: its table is unchanged, each step passes one group until all are passed, and the marks
 -- of the groups passed are document 01's, every other mark 0.
 -- Assumes nothing.
-use Rattle.laws.specs.Prelude.{ℕ, ◌<◌, ◌≤◌, ◌+◌, ◌^◌, suc, ◌≡◌, ◌∙◌, sym, ap, refl, List, [], ◌∷◌, lt_of_not-le, ℕ_discrete, dec_le, arith, length, set}
+use Rattle.std.specs.Prelude.{◌<◌, ◌≤◌, ◌+◌, ◌^◌, ◌≡◌, ◌∷◌}
+use Rattle.laws.specs.Prelude.{ℕ, suc, ◌∙◌, sym, ap, refl, List, [], lt_of_not-le, ℕ_discrete, dec_le, arith, length, set}
 use Rattle.laws.specs.Prelude.{length-set, replicate, length-replicate, get_or-replicate, get_or-eq_default, get_or-set_same, get_or-set_other, ext_get_or}
 use Rattle.laws.specs.Prelude.{pow_pos, by_cases}
 use Rattle.rules.specs.Calls.Answers.{ink_in}

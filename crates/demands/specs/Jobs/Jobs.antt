@@ -1,7 +1,8 @@
 -- Document 02, K9: the promises about jobs. "For every list of steps and askings from a newly opened job, the marks passed are those of document 01
 -- and every other mark in the job is 0."
 -- Assumes nothing.
-use Rattle.laws.specs.Prelude.{ℕ, ◌<◌, ◌≤◌, ◌+◌, ◌-◌, ◌^◌, ◌≡◌, ◌∙◌, sym, ap, refl, subst, ◌↔◌, List, [], ◌∷◌, zero-add, lt_of_not-le, ℕ_discrete, dec_le}
+use Rattle.std.specs.Prelude.{◌<◌, ◌≤◌, ◌+◌, ◌-◌, ◌^◌, ◌≡◌, ◌↔◌, ◌∷◌}
+use Rattle.laws.specs.Prelude.{ℕ, ◌∙◌, sym, ap, refl, subst, List, [], zero-add, lt_of_not-le, ℕ_discrete, dec_le}
 use Rattle.laws.specs.Prelude.{arith, length, replicate}
 use Rattle.rules.specs.Calls.Answers.{accepted, refused}
 use Rattle.rules.specs.Calls.OpenCells.{full_cells, read_full}

@@ -3,7 +3,8 @@
 -- the sheet written is an accepted net with the given wiring and exactly the table, and the set is exactly the gates that changed. Keeping again
 -- changes nothing; keeping the wiring of the settled net gives making's sheet; keeping leaves every sheet of a family as it is.
 -- Assumes nothing.
-use Rattle.laws.specs.Prelude.{ℕ, ◌<◌, ◌≤◌, ◌-◌, ◌^◌, suc, ◌≡◌, ◌∙◌, sym, ap, refl, subst, ap₂, subst⁻¹, ◌↔◌, ◌≢◌, ⊎_elim, ◌⊎◌, inl, inr, true, false, Bool}
+use Rattle.std.specs.Prelude.{◌<◌, ◌≤◌, ◌-◌, ◌^◌, ◌≡◌, ◌↔◌, ◌≢◌, ◌⊎◌}
+use Rattle.laws.specs.Prelude.{ℕ, suc, ◌∙◌, sym, ap, refl, subst, ap₂, subst⁻¹, ⊎_elim, inl, inr, true, false, Bool}
 use Rattle.laws.specs.Prelude.{true≢false, List, lt_of_not-le, dec_le, arith, length, get_or, take, answer_cases, by_cases, test_cases}
 use Rattle.rules.specs.Calls.Answers.{accepted, Named, net_named, table_named, neither, ink_in, written}
 use Rattle.rules.specs.Calls.Checking.{same_header}

@@ -1,6 +1,7 @@
 -- With the buffers that include/sitgurp.h says always suffice, keeping a wiring refuses only with the numbers of its two sheets, 27, 12 and 23.
 -- Assumes nothing.
-use Rattle.laws.specs.Prelude.{ℕ, ◌≤◌, ◌^◌, ◌≡◌, ◌∙◌, sym, ap, refl, subst₂, true, false, Bool, List, [], ◌∷◌, le_trans, arith, length}
+use Rattle.std.specs.Prelude.{◌≤◌, ◌^◌, ◌≡◌, ◌∷◌}
+use Rattle.laws.specs.Prelude.{ℕ, ◌∙◌, sym, ap, refl, subst₂, true, false, Bool, List, [], le_trans, arith, length}
 use Rattle.rules.specs.Calls.Answers.{Answer, accepted, refused, Named, net_named, table_named, neither}
 use Rattle.rules.specs.Calls.Checking.{same_header}
 use Rattle.rules.specs.Calls.Keeping.{Keeping, turned_away, KeptWiring, keep_call}

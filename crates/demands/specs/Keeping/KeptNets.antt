@@ -1,6 +1,7 @@
 -- Document 02, K10 and K12, stated for nets and full tables: when a net's wiring can be filled for a table, and what filling it gives.
 -- Assumes nothing.
-use Rattle.laws.specs.Prelude.{ℕ, ◌<◌, ◌≤◌, ◌^◌, ◌≡◌, ◌∙◌, sym, ap, refl, subst⁻¹, ◌↔◌, ⊎_elim, ◌⊎◌, inl, inr, true, false, Bool, ◌&&◌, not, true≢false}
+use Rattle.std.specs.Prelude.{◌<◌, ◌≤◌, ◌^◌, ◌≡◌, ◌↔◌, ◌⊎◌, ◌&&◌}
+use Rattle.laws.specs.Prelude.{ℕ, ◌∙◌, sym, ap, refl, subst⁻¹, ⊎_elim, inl, inr, true, false, Bool, not, true≢false}
 use Rattle.laws.specs.Prelude.{and-eq-true_iff, List, arith, eqb, length, get_or, not-true}
 use Rattle.rules.specs.Calls.Answers.{ink_in}
 use Rattle.rules.specs.Calls.FamilyCalls.{family_net}

@@ -2,7 +2,8 @@
 -- differing only there differ in ink." The leaves are "just the inputs that matter .. if fewer than two do, the first-listed others make up two":
 -- each input that matters, at least two and otherwise no more, and another input only if no earlier one is left out.
 -- Assumes nothing.
-use Rattle.laws.specs.Prelude.{ℕ, ◌<◌, ◌-◌, suc, zero, max, ◌≡◌, ◌∙◌, sym, ap, refl, ◌↔◌, ◌≢◌, ⊎_elim, true, false, Bool, not, true≢false, cond, List, ◌∷◌}
+use Rattle.std.specs.Prelude.{◌<◌, ◌-◌, ◌≡◌, ◌↔◌, ◌≢◌, ◌∷◌}
+use Rattle.laws.specs.Prelude.{ℕ, suc, zero, max, ◌∙◌, sym, ap, refl, ⊎_elim, true, false, Bool, not, true≢false, cond, List}
 use Rattle.laws.specs.Prelude.{Memᴰ, mem_head, mem_not_nil, mem_tail, mem_append_cases, mem_cases_cons, mem_append_right}
 use Rattle.laws.specs.Prelude.{zero-add, arith, eqb, length, get_or, take, eq-eqb, test_cases}
 use Rattle.rules.specs.Groups.Groups.{member, size}

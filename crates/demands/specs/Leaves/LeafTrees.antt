@@ -3,7 +3,8 @@
 -- exactly if there is none on the table's leaves, none on all inputs, and none at all (`make_refuses`). The same holds for every group of two or more
 -- inputs with all that matter. Stated for gate lists, accepted net sheets and Section I's trees.
 -- Assumes nothing.
-use Rattle.laws.specs.Prelude.{ℕ, ◌<◌, ◌≤◌, ◌^◌, suc, zero, ◌≡◌, ◌∙◌, sym, ◌↔◌, iff_trans, iff_not, true, List, arith, length}
+use Rattle.std.specs.Prelude.{◌<◌, ◌≤◌, ◌^◌, ◌≡◌, ◌↔◌}
+use Rattle.laws.specs.Prelude.{ℕ, suc, zero, ◌∙◌, sym, iff_trans, iff_not, true, List, arith, length}
 use Rattle.rules.specs.Calls.Answers.{accepted, refused, ink_in}
 use Rattle.rules.specs.Calls.OpenCells.{read_full}
 use Rattle.rules.specs.Calls.Settling.{make_call}

@@ -3,7 +3,8 @@
 -- sheet that a call writes from a table, whatever the buffers: which inputs it uses, that every leaf matters if two or more inputs do, that it has
 -- no more gates than its leaves need, and that nothing with that table has fewer gates.
 -- Assumes nothing.
-use Rattle.laws.specs.Prelude.{ℕ, ◌<◌, ◌≤◌, suc, max, ◌≡◌, ◌∙◌, sym, ap, subst, by_cases, true, false, List, lt_of_not-le, dec_le, arith, eqb, length}
+use Rattle.std.specs.Prelude.{◌<◌, ◌≤◌, ◌≡◌}
+use Rattle.laws.specs.Prelude.{ℕ, suc, max, ◌∙◌, sym, ap, subst, by_cases, true, false, List, lt_of_not-le, dec_le, arith, eqb, length}
 use Rattle.rules.specs.Calls.Answers.{Answer, accepted, ink_in}
 use Rattle.rules.specs.Calls.FamilyCalls.{family_net, family_tree_call}
 use Rattle.rules.specs.Calls.OpenCells.{read_full}

@@ -1,6 +1,7 @@
 -- The numbers with which the call for arrival times may refuse, by the sheet that it refuses.
 -- Assumes nothing.
-use Rattle.laws.specs.Prelude.{ℕ, ◌≡◌, subst, List, arith}
+use Rattle.std.specs.Prelude.{◌≡◌}
+use Rattle.laws.specs.Prelude.{ℕ, subst, List, arith}
 use Rattle.rules.specs.Nets.Arrivals.{Timing, net_refused, arrivals_refused, arrivals_call}
 use Rattle.rules.specs.Sheets.Reading.{read_net}
 use Rattle.rules.specs.Sheets.ArrivalSheet.{read_arrivals}

@@ -1,6 +1,7 @@
 -- The numbers with which checking may refuse.
 -- Assumes nothing.
-use Rattle.laws.specs.Prelude.{ℕ, ◌≡◌, refl, subst₂, ◌&&◌, not, List, [], ◌∷◌, arith, eqb, ltb, length, get_or}
+use Rattle.std.specs.Prelude.{◌≡◌, ◌&&◌, ◌∷◌}
+use Rattle.laws.specs.Prelude.{ℕ, refl, subst₂, not, List, [], arith, eqb, ltb, length, get_or}
 use Rattle.rules.specs.Calls.Answers.{Named, net_named, table_named, neither}
 use Rattle.rules.specs.Calls.Checking.{Verdict, turned_down, same_header, compared, Checked, checked_into, check_call}
 use Rattle.rules.specs.Calls.OpenCells.{is_open_of}

@@ -1,7 +1,8 @@
 -- The numbers with which the two calls of a family may refuse: making's, except 16. "A table with no tree gets count 0, never 16", and 17 "takes the
 -- place of 16 in the second call".
 -- Assumes nothing.
-use Rattle.laws.specs.Prelude.{ℕ, ◌≡◌, ◌∙◌, sym, refl, List, [], ◌∷◌}
+use Rattle.std.specs.Prelude.{◌≡◌, ◌∷◌}
+use Rattle.laws.specs.Prelude.{ℕ, ◌∙◌, sym, refl, List, []}
 use Rattle.rules.specs.Calls.Answers.{refused}
 use Rattle.rules.specs.Calls.FamilyCalls.{count_of_table, Counted, family_count_call, family_tree_call}
 use Rattle.rules.specs.Calls.Settling.{Made}

@@ -1,9 +1,9 @@
 -- The numbers with which the glyph call may refuse.
 -- Assumes nothing.
-use Rattle.laws.specs.Prelude.{ℕ, ◌<◌, ◌≤◌, ◌*◌, ◌≡◌, refl, true, List, [], ◌∷◌, mul-le-mul, arith, eqb, ltb, length, ltb-true}
+use Rattle.laws.specs.Prelude.{ℕ, refl, true, List, [], mul-le-mul, arith, eqb, ltb, length, ltb-true}
 use Rattle.rules.specs.Lists.{all, any}
 use Rattle.rules.specs.Sheets.Reading.{read_net}
-use Rattle.std.specs.Prelude.{ℤ}
+use Rattle.std.specs.Prelude.{ℤ, ◌<◌, ◌≤◌, ◌*◌, ◌≡◌, ◌∷◌}
 use Rattle.rules.specs.Calls.TableWriting.{Written}
 use Rattle.rules.specs.Calls.Glyphs.{most_side, picture_fits, offsets_fit, glyph_judged, glyph_into, glyph_call}
 use Rattle.laws.specs.Lists.Distinct.{In, wider}

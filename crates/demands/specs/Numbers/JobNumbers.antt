@@ -1,7 +1,8 @@
 -- The numbers with which a job's calls may refuse, for every job: opening with those of a sheet of a full table, a step with 21, asking with 11,
 -- finishing with 9, 10, 27, 22 and then making's; and that a refusal returns the job unchanged.
 -- Assumes nothing.
-use Rattle.laws.specs.Prelude.{ℕ, ◌^◌, ◌≡◌, ◌∙◌, sym, ap, refl, ◌||◌, List, [], ◌∷◌, lt_of_not-le, dec_le, eqb, ltb, leb, by_cases}
+use Rattle.std.specs.Prelude.{◌^◌, ◌≡◌, ◌||◌, ◌∷◌}
+use Rattle.laws.specs.Prelude.{ℕ, ◌∙◌, sym, ap, refl, List, [], lt_of_not-le, dec_le, eqb, ltb, leb, by_cases}
 use Rattle.rules.specs.Calls.Answers.{refused}
 use Rattle.rules.specs.Calls.OpenCells.{read_full}
 use Rattle.rules.specs.Calls.Settling.{Made, settled_net}

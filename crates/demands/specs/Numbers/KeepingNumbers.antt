@@ -1,6 +1,7 @@
 -- The numbers with which keeping a wiring may refuse, by the sheet that it names.
 -- Assumes nothing.
-use Rattle.laws.specs.Prelude.{ℕ, ◌≡◌, refl, subst₂, List, [], ◌∷◌, arith, ltb, length}
+use Rattle.std.specs.Prelude.{◌≡◌, ◌∷◌}
+use Rattle.laws.specs.Prelude.{ℕ, refl, subst₂, List, [], arith, ltb, length}
 use Rattle.rules.specs.Calls.Answers.{Named, net_named, table_named, neither}
 use Rattle.rules.specs.Calls.Checking.{same_header}
 use Rattle.rules.specs.Calls.Keeping.{Keeping, rewritten, turned_away, KeptWiring, kept_net, roomy_before, leaves_out, kept_into, keep_call}

@@ -1,6 +1,7 @@
 -- The numbers with which the marking call may refuse.
 -- Assumes nothing.
-use Rattle.laws.specs.Prelude.{ℕ, refl, List, [], ◌∷◌, ltb, length}
+use Rattle.std.specs.Prelude.{◌∷◌}
+use Rattle.laws.specs.Prelude.{ℕ, refl, List, [], ltb, length}
 use Rattle.rules.specs.Calls.OpenCells.{full_cells}
 use Rattle.rules.specs.Groups.Marks.{marks_length}
 use Rattle.rules.specs.Lists.{any}

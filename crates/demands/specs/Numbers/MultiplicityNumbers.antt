@@ -1,6 +1,7 @@
 -- The numbers with which the multiplicity call may refuse.
 -- Assumes nothing.
-use Rattle.laws.specs.Prelude.{ℕ, ◌^◌, refl, ◌||◌, List, [], ◌∷◌, eqb, leb}
+use Rattle.std.specs.Prelude.{◌^◌, ◌||◌, ◌∷◌}
+use Rattle.laws.specs.Prelude.{ℕ, refl, List, [], eqb, leb}
 use Rattle.rules.specs.Calls.OpenCells.{full_cells}
 use Rattle.rules.specs.Lists.{any}
 use Rattle.rules.specs.Calls.Multiplicity.{multiplicity_call}

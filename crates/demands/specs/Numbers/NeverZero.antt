@@ -1,6 +1,6 @@
 -- No call refuses with 0.
 -- Assumes nothing.
-use Rattle.laws.specs.Prelude.{ℕ, ◌≡◌, sym, refl, true≢false, List, [], ◌∷◌}
+use Rattle.laws.specs.Prelude.{ℕ, sym, refl, true≢false, List, []}
 use Rattle.rules.specs.Calls.Answers.{refused, Named, net_named, table_named, neither}
 use Rattle.rules.specs.Calls.Checking.{turned_down, check_call}
 use Rattle.rules.specs.Calls.FamilyCalls.{family_count_call, family_tree_call}
@@ -9,7 +9,7 @@ use Rattle.rules.specs.Calls.Settling.{settle_call, make_call}
 use Rattle.rules.specs.Calls.ShallowSettling.{settle_shallow_call, make_shallow_call}
 use Rattle.rules.specs.Lists.{any}
 use Rattle.rules.specs.Nets.Arrivals.{net_refused, arrivals_refused, arrivals_call}
-use Rattle.std.specs.Prelude.{ℤ}
+use Rattle.std.specs.Prelude.{ℤ, ◌≡◌, ◌∷◌}
 use Rattle.rules.specs.Calls.Multiplicity.{multiplicity_call}
 use Rattle.rules.specs.Calls.Marking.{marking_call}
 use Rattle.rules.specs.Calls.TableWriting.{write_table_call}

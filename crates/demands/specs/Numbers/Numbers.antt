@@ -1,7 +1,8 @@
 -- Demand 1: ".. turned back with the one number and place that document 01 fixes, and so is every other call". Each call's equation
 -- fixes the number. Here: what it means that a call gives only certain numbers, for all inputs and buffers, and how to prove it case by case.
 -- Assumes nothing.
-use Rattle.laws.specs.Prelude.{ℕ, ◌^◌, ◌≡◌, ◌∙◌, sym, refl, subst, true, false, Bool, ◌&&◌, true≢false, List, eqb, leb, length}
+use Rattle.std.specs.Prelude.{◌^◌, ◌≡◌, ◌&&◌}
+use Rattle.laws.specs.Prelude.{ℕ, ◌∙◌, sym, refl, subst, true, false, Bool, true≢false, List, eqb, leb, length}
 use Rattle.rules.specs.Calls.Answers.{Answer, accepted, refused, onward}
 use Rattle.rules.specs.Calls.OpenCells.{is_open_of, full, full_cells}
 use Rattle.rules.specs.Limits.{size_fits}

@@ -1,6 +1,7 @@
 -- The numbers with which settling and making may refuse.
 -- Assumes nothing.
-use Rattle.laws.specs.Prelude.{ℕ, ◌^◌, ◌≡◌, refl, subst⁻¹, List, [], ◌∷◌, ℕ_discrete, ltb, length}
+use Rattle.std.specs.Prelude.{◌^◌, ◌≡◌, ◌∷◌}
+use Rattle.laws.specs.Prelude.{ℕ, refl, subst⁻¹, List, [], ℕ_discrete, ltb, length}
 use Rattle.rules.specs.Calls.Answers.{refused}
 use Rattle.rules.specs.Calls.OpenCells.{read_full}
 use Rattle.rules.specs.Calls.Settling.{Made, settled_net, written_sheet, after_marks, room_for, in_room, made_into, settle_call, make_call}

@@ -1,6 +1,7 @@
 -- The numbers with which tidying may refuse.
 -- Assumes nothing.
-use Rattle.laws.specs.Prelude.{ℕ, ◌^◌, refl, List, [], ◌∷◌, ltb, length}
+use Rattle.std.specs.Prelude.{◌^◌, ◌∷◌}
+use Rattle.laws.specs.Prelude.{ℕ, refl, List, [], ltb, length}
 use Rattle.rules.specs.Lists.{all, any}
 use Rattle.rules.specs.Sheets.Printed.{printed_table}
 use Rattle.rules.specs.Sheets.Sheets.{Table}

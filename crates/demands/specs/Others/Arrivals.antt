@@ -1,7 +1,8 @@
 -- Document 02, K5: the answer of the call for arrival times, and what it says about all arrivals inside the ranges. "Arrival times count used inputs
 -- only." (K12): the ranges of the others do not matter.
 -- Assumes nothing.
-use Rattle.laws.specs.Prelude.{ℕ, ◌<◌, ◌≤◌, ◌+◌, ◌-◌, ◌*◌, ◌≡◌, ◌∙◌, sym, ap, refl, subst, true, false, List, map, zero-mul, mul-le-mul_right, mul-le-mul}
+use Rattle.std.specs.Prelude.{◌<◌, ◌≤◌, ◌+◌, ◌-◌, ◌*◌, ◌≡◌}
+use Rattle.laws.specs.Prelude.{ℕ, ◌∙◌, sym, ap, refl, subst, true, false, List, map, zero-mul, mul-le-mul_right, mul-le-mul}
 use Rattle.laws.specs.Prelude.{le_refl, arith, eqb, length, get_or, length-map, get_or-map, answer_cases}
 use Rattle.rules.specs.Calls.Answers.{accepted}
 use Rattle.rules.specs.Limits.{most_inputs, most_time, most_delay}

@@ -1,7 +1,8 @@
 -- Demand 2, checking and table writing: "the check of a net against a table says yes exactly when they agree on every
 -- assignment", now for "the assignments that aren't open" (document 02, K13). The table sheet written from a net sheet is accepted, and agrees.
 -- Assumes nothing.
-use Rattle.laws.specs.Prelude.{ℕ, ◌<◌, ◌≤◌, ◌^◌, ◌≡◌, ◌∙◌, sym, ap, refl, subst, subst⁻¹, ◌↔◌, true, false, Bool, List, lt_of_not-le, dec_le, arith, length}
+use Rattle.std.specs.Prelude.{◌<◌, ◌≤◌, ◌^◌, ◌≡◌, ◌↔◌}
+use Rattle.laws.specs.Prelude.{ℕ, ◌∙◌, sym, ap, refl, subst, subst⁻¹, true, false, Bool, List, lt_of_not-le, dec_le, arith, length}
 use Rattle.laws.specs.Prelude.{get_or, by_cases}
 use Rattle.rules.specs.Calls.Answers.{Answer, accepted, refused, Named, net_named, table_named, neither, ink_in, written}
 use Rattle.rules.specs.Calls.Checking.{Verdict, agree, differ, turned_down, Checked, same_header, compared, checked_into, check_call}

@@ -1,6 +1,7 @@
 -- What the result of the multiplicity call means: the fewest values that a wire in place of the group can carry.
 -- Assumes nothing.
-use Rattle.laws.specs.Prelude.{ℕ, ◌<◌, ◌≤◌, ◌^◌, ◌≡◌, sym, refl, subst, ◌↔◌, true, false, Bool, ◌||◌, List, arith, eqb, leb, leb-false, test_cases}
+use Rattle.std.specs.Prelude.{◌<◌, ◌≤◌, ◌^◌, ◌≡◌, ◌↔◌, ◌||◌}
+use Rattle.laws.specs.Prelude.{ℕ, sym, refl, subst, true, false, Bool, List, arith, eqb, leb, leb-false, test_cases}
 use Rattle.rules.specs.Calls.Answers.{Answer, accepted, refused, ink_in, onward}
 use Rattle.rules.specs.Calls.OpenCells.{full_cells}
 use Rattle.rules.specs.Groups.Groups.{multiplicity}

@@ -1,6 +1,6 @@
 -- Document 02, K11: what the glyph call prints, and that nets that settle alike print the same glyph.
 -- Assumes nothing.
-use Rattle.laws.specs.Prelude.{ℕ, ◌<◌, ◌≤◌, ◌+◌, ◌*◌, ◌≡◌, ◌∙◌, sym, ap, refl, true, false, Bool, List, ◌++◌, map, add-zero, mul_comm, arith, length, get_or}
+use Rattle.laws.specs.Prelude.{ℕ, ◌∙◌, sym, ap, refl, true, false, Bool, List, map, add-zero, mul_comm, arith, length, get_or}
 use Rattle.laws.specs.Prelude.{drop, length-append, replicate, length-drop, get_or-append, drop-append_seam, digits_lt}
 use Rattle.rules.specs.Calls.Answers.{Answer, accepted, refused, written}
 use Rattle.rules.specs.Calls.Settling.{settled_net, settle_call}
@@ -9,7 +9,7 @@ use Rattle.rules.specs.Nets.Value.{value_with}
 use Rattle.rules.specs.Sheets.Reading.{read_net, table_of_net}
 use Rattle.rules.specs.Sheets.SheetRules.{NetRules}
 use Rattle.rules.specs.Sheets.Sheets.{Net, Table}
-use Rattle.std.specs.Prelude.{ℤ, pos, ◌+ℤ◌}
+use Rattle.std.specs.Prelude.{ℤ, pos, ◌+ℤ◌, ◌<◌, ◌≤◌, ◌+◌, ◌*◌, ◌≡◌, ◌++◌}
 use Rattle.rules.specs.Calls.TableWriting.{Written}
 use Rattle.rules.specs.Calls.Glyphs.{across, down, level_at, levels_read, new_cell, glyph, picture_fits, glyph_judged, glyph_into, glyph_call}
 use Rattle.laws.specs.Calls.Answers.{not_refused}

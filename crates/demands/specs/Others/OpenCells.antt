@@ -1,7 +1,8 @@
 -- Document 02, K13: "Everything that counts classes, marks groups or fills gates needs a full table". Each such call refuses with 27 exactly if
 -- some cell is open, at the lowest such index, provided everything judged before it passes; and it then leaves every buffer unchanged.
 -- Assumes nothing.
-use Rattle.laws.specs.Prelude.{ℕ, ◌<◌, ◌≤◌, ◌^◌, ◌≡◌, ◌∙◌, sym, ap, refl, subst, ◌↔◌, iff_trans, true, false, Bool, true≢false, ◌||◌, List, [], ◌∷◌}
+use Rattle.std.specs.Prelude.{◌<◌, ◌≤◌, ◌^◌, ◌≡◌, ◌↔◌, ◌||◌, ◌∷◌}
+use Rattle.laws.specs.Prelude.{ℕ, ◌∙◌, sym, ap, refl, subst, iff_trans, true, false, Bool, true≢false, List, []}
 use Rattle.laws.specs.Prelude.{lt_of_not-le, dec_lt, dec_le, arith, eqb, ltb, leb, length, get_or, answer_cases}
 use Rattle.rules.specs.Calls.Answers.{Answer, accepted, refused, Named, net_named, table_named, neither}
 use Rattle.rules.specs.Calls.Checking.{same_header}

@@ -2,7 +2,8 @@
 -- makes. A refusal prints the line `number place`, then the two decimal values." Their buffers have the largest length that any sheet
 -- needs, so what a program prints is the settled sheet, or the refusal of its sheet or of its table.
 -- Assumes nothing.
-use Rattle.laws.specs.Prelude.{ℕ, ◌≤◌, ◌≡◌, sym, ap, List, le_of_eq, length, take, length-replicate}
+use Rattle.std.specs.Prelude.{◌≤◌, ◌≡◌}
+use Rattle.laws.specs.Prelude.{ℕ, sym, ap, List, le_of_eq, length, take, length-replicate}
 use Rattle.rules.specs.Calls.Answers.{Answer, accepted, refused}
 use Rattle.rules.specs.Calls.OpenCells.{read_full}
 use Rattle.rules.specs.Calls.Settling.{Made, settled_net, settle_call, make_call}

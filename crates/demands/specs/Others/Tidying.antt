@@ -1,7 +1,8 @@
 -- Document 02, K8, on tidying: "A strict sheet comes back unchanged, and a tidied sheet has, at each assignment, the ink of the row that named it.
 -- Two accepted loose sheets with the same first three lines, spaces aside, tidy to equal bytes exactly when they give every assignment the same ink."
 -- Assumes nothing.
-use Rattle.laws.specs.Prelude.{ℕ, ◌<◌, ◌≤◌, ◌^◌, ◌≡◌, ◌∙◌, sym, ap, refl, subst, subst⁻¹, ◌↔◌, List, [], ◌∷◌, ◌++◌, map, zero-add, lt_of_not-le, dec_le, arith}
+use Rattle.std.specs.Prelude.{◌<◌, ◌≤◌, ◌^◌, ◌≡◌, ◌↔◌, ◌∷◌, ◌++◌}
+use Rattle.laws.specs.Prelude.{ℕ, ◌∙◌, sym, ap, refl, subst, subst⁻¹, List, [], map, zero-add, lt_of_not-le, dec_le, arith}
 use Rattle.laws.specs.Prelude.{ltb, length, get_or, take, length-append, take_at, by_cases}
 use Rattle.rules.specs.Calls.Answers.{Answer, accepted, refused, written}
 use Rattle.rules.specs.Lists.{range}

@@ -1,7 +1,8 @@
 -- Document 003 (Butler), section VII, Conjecture 2, and a proof that it is false. Document 01's case 7 is a counterexample; with one more input
 -- it is one in which each group of a decomposition has several inputs.
 -- Assumes nothing.
-use Rattle.laws.specs.Prelude.{ℕ, ◌<◌, ◌^◌, ◌%◌, ◌/◌, ◌≡◌, refl, ◌↔◌, true, false, cond, [], ◌∷◌, arith, eqb, lit<}
+use Rattle.std.specs.Prelude.{◌<◌, ◌^◌, ◌%◌, ◌/◌, ◌≡◌, ◌↔◌, ◌∷◌}
+use Rattle.laws.specs.Prelude.{ℕ, refl, true, false, cond, [], arith, eqb, lit<}
 use Rattle.rules.specs.Calls.Answers.{ink_in}
 use Rattle.rules.specs.Groups.Groups.{member, others, whole_group, size}
 use Rattle.rules.specs.Groups.Marks.{mark_in, marks_of}

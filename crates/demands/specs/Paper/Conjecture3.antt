@@ -1,6 +1,7 @@
 -- Document 003 (Butler), section VII, Conjecture 3, and a proof that it is false.
 -- Assumes nothing.
-use Rattle.laws.specs.Prelude.{ℕ, ◌<◌, ◌≤◌, ◌+◌, ◌^◌, suc, zero, ◌≡◌, refl, subst, ap₂, subst⁻¹, ◌↔◌, ◌≢◌, List, [], ◌∷◌, arith, lit<, lit≤, get_or}
+use Rattle.std.specs.Prelude.{◌<◌, ◌≤◌, ◌+◌, ◌^◌, ◌≡◌, ◌↔◌, ◌≢◌, ◌∷◌}
+use Rattle.laws.specs.Prelude.{ℕ, suc, zero, refl, subst, ap₂, subst⁻¹, List, [], arith, lit<, lit≤, get_or}
 use Rattle.rules.specs.Groups.Groups.{part, others, whole_group, classes, multiplicity}
 use Rattle.rules.specs.Sheets.Sheets.{level}
 use Rattle.rules.specs.Text.{text}

@@ -1,7 +1,8 @@
 -- Document 003 (Butler), section II: simple and complex disjunctive decompositions, and Theorems 1 and 2, for every table of m levels
 -- and n inputs and every group X of the inputs. Y is the group of the other inputs.
 -- Assumes nothing.
-use Rattle.laws.specs.Prelude.{ℕ, ◌<◌, ◌≤◌, ◌+◌, ◌^◌, ◌≡◌, ◌∙◌, sym, ap, ◌∎, ◌≡⟨◌⟩◌, ◌↔◌, lt_of_lt_of_le, add_comm, get_or}
+use Rattle.std.specs.Prelude.{◌<◌, ◌≤◌, ◌+◌, ◌^◌, ◌≡◌, ◌↔◌}
+use Rattle.laws.specs.Prelude.{ℕ, ◌∙◌, sym, ap, ◌∎, ◌≡⟨◌⟩◌, lt_of_lt_of_le, add_comm, get_or}
 use Rattle.rules.specs.Groups.Groups.{part, others, classes, multiplicity}
 use Rattle.rules.specs.Nets.Filling.{class_number}
 use Rattle.trees.specs.Trees.Trees.{mix, Alike, Tells}

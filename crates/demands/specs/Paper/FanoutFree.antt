@@ -1,7 +1,8 @@
 -- Document 003 (Butler), sections I to III: fanout-free functions, and how marks decide them. A function of a group's levels that determines
 -- the ink is fanout-free only if the group has mark 2; if it has, the group's classes are fanout-free, and so is the ink.
 -- Assumes nothing.
-use Rattle.laws.specs.Prelude.{ℕ, ◌<◌, ◌≤◌, ◌+◌, ◌^◌, ◌≡◌, ◌∙◌, sym, ap, refl, ◌≢◌, ◌⊎◌, inl, inr, true, false, Bool, arith}
+use Rattle.std.specs.Prelude.{◌<◌, ◌≤◌, ◌+◌, ◌^◌, ◌≡◌, ◌≢◌, ◌⊎◌}
+use Rattle.laws.specs.Prelude.{ℕ, ◌∙◌, sym, ap, refl, inl, inr, true, false, Bool, arith}
 use Rattle.rules.specs.Groups.Groups.{part, size, multiplicity}
 use Rattle.rules.specs.Groups.Marks.{marks_of}
 use Rattle.rules.specs.Nets.Filling.{class_number, given}

@@ -1,7 +1,8 @@
 -- Document 003 (Butler), section II: the partition matrix of a table for a group X and the others, Y. Its column multiplicity and
 -- its row multiplicity are document 01's multiplicities of the two groups.
 -- Assumes nothing.
-use Rattle.laws.specs.Prelude.{ℕ, ◌<◌, ◌+◌, ◌^◌, ◌≡◌, ◌∙◌, sym, ap, refl, fun_ext, true, false, Bool, List, [], ◌∷◌, map, add_comm, arith, eqb, length}
+use Rattle.std.specs.Prelude.{◌<◌, ◌+◌, ◌^◌, ◌≡◌, ◌∷◌}
+use Rattle.laws.specs.Prelude.{ℕ, ◌∙◌, sym, ap, refl, fun_ext, true, false, Bool, List, [], map, add_comm, arith, eqb, length}
 use Rattle.laws.specs.Prelude.{length-map}
 use Rattle.rules.specs.Calls.Answers.{ink_in}
 use Rattle.rules.specs.Groups.Groups.{size, others, whole_group, points, alike_over, firsts, classes, multiplicity}

@@ -1,7 +1,8 @@
 -- Document 02, K14, for the family of a table's trees: two full table sheets, one a renaming of the other's inks, have equally many trees, and under
 -- every number sheets that differ only by the renaming in the last table.
 -- Assumes nothing.
-use Rattle.laws.specs.Prelude.{ℕ, ◌<◌, ◌≤◌, ◌^◌, ◌≡◌, ◌∙◌, ap, subst, List, dec_lt, arith, length, take}
+use Rattle.std.specs.Prelude.{◌<◌, ◌≤◌, ◌^◌, ◌≡◌}
+use Rattle.laws.specs.Prelude.{ℕ, ◌∙◌, ap, subst, List, dec_lt, arith, length, take}
 use Rattle.rules.specs.Calls.Answers.{accepted, ink_in}
 use Rattle.rules.specs.Calls.FamilyCalls.{Counted, count_of_table, family_net, family_count_call, family_tree_call, after_count}
 use Rattle.rules.specs.Calls.Settling.{settled_net}

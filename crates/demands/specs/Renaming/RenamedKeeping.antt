@@ -2,7 +2,8 @@
 -- the same number and place, or kept for both. Then the two sheets differ only by the renaming in the last table, and the sets of the gates that
 -- changed agree except for the last gate.
 -- Assumes nothing.
-use Rattle.laws.specs.Prelude.{ℕ, ◌<◌, ◌≤◌, ◌^◌, suc, ◌≡◌, ◌∙◌, sym, ap, refl, subst, subst⁻¹, ◌≢◌, true, false, Bool, List, lt_of_not-le, dec_le, length}
+use Rattle.std.specs.Prelude.{◌<◌, ◌≤◌, ◌^◌, ◌≡◌, ◌≢◌}
+use Rattle.laws.specs.Prelude.{ℕ, suc, ◌∙◌, sym, ap, refl, subst, subst⁻¹, true, false, Bool, List, lt_of_not-le, dec_le, length}
 use Rattle.laws.specs.Prelude.{take, test_cases, answer_cases}
 use Rattle.rules.specs.Calls.Answers.{accepted, Named, net_named, neither, ink_in, written}
 use Rattle.rules.specs.Calls.Checking.{same_header}

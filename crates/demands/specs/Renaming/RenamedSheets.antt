@@ -2,7 +2,8 @@
 -- levels", and two net sheets where "their gate lines agree in left and right throughout and in every table but the last. The last tables differ by
 -- that renaming at each digit that some assignment reaches." Stated for the sheets' bytes.
 -- Assumes nothing.
-use Rattle.laws.specs.Prelude.{ℕ, ◌<◌, ◌^◌, ◌≡◌, ◌∙◌, sym, ap, refl, subst⁻¹, List, map, length, length-append, length-map}
+use Rattle.std.specs.Prelude.{◌<◌, ◌^◌, ◌≡◌}
+use Rattle.laws.specs.Prelude.{ℕ, ◌∙◌, sym, ap, refl, subst⁻¹, List, map, length, length-append, length-map}
 use Rattle.rules.specs.Calls.Answers.{accepted, ink_in}
 use Rattle.rules.specs.Calls.OpenCells.{read_full}
 use Rattle.rules.specs.Sheets.Printed.{printed_net}

@@ -3,7 +3,8 @@
 -- agree in left and right throughout and in every table but the last. The last tables differ by that renaming at each digit that some assignment
 -- reaches. Shallow nets keep it too." They are refused with the same number and place, and leave the same marks.
 -- Assumes nothing.
-use Rattle.laws.specs.Prelude.{ℕ, ◌<◌, ◌≤◌, ◌^◌, ◌≡◌, ◌∙◌, sym, ap, refl, subst, subst⁻¹, List, ℕ_discrete, arith, length, take}
+use Rattle.std.specs.Prelude.{◌<◌, ◌≤◌, ◌^◌, ◌≡◌}
+use Rattle.laws.specs.Prelude.{ℕ, ◌∙◌, sym, ap, refl, subst, subst⁻¹, List, ℕ_discrete, arith, length, take}
 use Rattle.rules.specs.Calls.Answers.{accepted, refused, onward, ink_in, written}
 use Rattle.rules.specs.Calls.Settling.{Made, settled_net, written_sheet, made_into, make_call}
 use Rattle.rules.specs.Calls.ShallowSettling.{Layered, LayeredMade, shallow_net, net_layers, make_shallow_call, layered_into, with_layers, layered}

@@ -3,7 +3,8 @@
 -- another. For two ways, with a marks buffer that is long enough for each, the answer, the cells and the output are the same. If the buffer is short,
 -- each refuses with 14, at the length that its own way needs.
 -- Assumes nothing.
-use Rattle.laws.specs.Prelude.{ℕ, ◌<◌, ◌≤◌, ◌^◌, ◌≡◌, ◌∙◌, sym, ap, refl, subst⁻¹, subst₂, true, false, Bool, List, [], lt_of_not-le, dec_le, eqb, ltb, length}
+use Rattle.std.specs.Prelude.{◌<◌, ◌≤◌, ◌^◌, ◌≡◌}
+use Rattle.laws.specs.Prelude.{ℕ, ◌∙◌, sym, ap, refl, subst⁻¹, subst₂, true, false, Bool, List, [], lt_of_not-le, dec_le, eqb, ltb, length}
 use Rattle.laws.specs.Prelude.{lt-ltb, le-ltb, answer_cases, by_cases}
 use Rattle.rules.specs.Calls.Answers.{Answer, accepted, ink_in, onward, refused, written}
 use Rattle.rules.specs.Calls.FamilyCalls.{Counted, count_of_table, family_net, counted_into, family_count_call, after_count, family_tree_call}

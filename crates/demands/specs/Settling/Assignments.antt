@@ -1,7 +1,8 @@
 -- The demands, for assignments: "An assignment gives each input a level." A table has one row for each, so the statements about indices
 -- (`table_at`, `check_agrees`, `make_refuses`) are statements about assignments.
 -- Assumes nothing.
-use Rattle.laws.specs.Prelude.{ℕ, ◌<◌, ◌≤◌, ◌+◌, ◌-◌, ◌^◌, ◌≡◌, sym, subst, ◌↔◌, iff_trans, iff_not, List, length, get_or}
+use Rattle.std.specs.Prelude.{◌<◌, ◌≤◌, ◌+◌, ◌-◌, ◌^◌, ◌≡◌, ◌↔◌}
+use Rattle.laws.specs.Prelude.{ℕ, sym, subst, iff_trans, iff_not, List, length, get_or}
 use Rattle.rules.specs.Calls.Answers.{accepted, refused, ink_in}
 use Rattle.rules.specs.Calls.Checking.{agree, check_call}
 use Rattle.rules.specs.Calls.OpenCells.{read_full}

@@ -3,7 +3,8 @@
 -- `LeafTrees` says which leaves are possible. "Otherwise making writes the very sheet that settling writes from every accepted net sheet with that
 -- table, the same levels and the same input names in the same order." "Demand 3 now speaks of full tables" (document 02, K13).
 -- Assumes nothing.
-use Rattle.laws.specs.Prelude.{ℕ, ◌≤◌, ◌^◌, ◌≡◌, ◌∙◌, sym, ap, refl, subst, subst⁻¹, ◌↔◌, List, [], ◌∷◌, ℕ_discrete, ltb, length, by_cases}
+use Rattle.std.specs.Prelude.{◌≤◌, ◌^◌, ◌≡◌, ◌↔◌, ◌∷◌}
+use Rattle.laws.specs.Prelude.{ℕ, ◌∙◌, sym, ap, refl, subst, subst⁻¹, List, [], ℕ_discrete, ltb, length, by_cases}
 use Rattle.rules.specs.Calls.Answers.{accepted, refused, ink_in, written}
 use Rattle.rules.specs.Calls.OpenCells.{read_full}
 use Rattle.rules.specs.Calls.Settling.{Made, settled_net, written_sheet, room_for, in_room, made_into, settle_call, make_call}

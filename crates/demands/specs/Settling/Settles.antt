@@ -3,7 +3,8 @@
 -- and gate tables, the two settled sheets are equal in length and in every byte exactly when the two nets compute the same
 -- table." (document 02, K12: "equal settling still means equal tables, unused inputs included")
 -- Assumes nothing.
-use Rattle.laws.specs.Prelude.{ℕ, ◌≤◌, ◌^◌, ◌≡◌, ◌∙◌, sym, ap, ◌↔◌, List, dec_le, arith, length, take, answer_cases}
+use Rattle.std.specs.Prelude.{◌≤◌, ◌^◌, ◌≡◌, ◌↔◌}
+use Rattle.laws.specs.Prelude.{ℕ, ◌∙◌, sym, ap, List, dec_le, arith, length, take, answer_cases}
 use Rattle.rules.specs.Calls.Answers.{Answer, accepted, refused, written}
 use Rattle.rules.specs.Calls.Settling.{Made, settled_net, made_into, settle_call}
 use Rattle.rules.specs.Groups.Marks.{marks_length, stored_marks}

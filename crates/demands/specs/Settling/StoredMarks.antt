@@ -1,6 +1,7 @@
 -- The marks buffer that a call wrote: every group's mark can be read from it, whatever it held before.
 -- Assumes nothing.
-use Rattle.laws.specs.Prelude.{ℕ, ◌<◌, ◌^◌, ◌*◌, ◌≡◌, ◌∙◌, sym, ap, true, List, arith, length, take}
+use Rattle.std.specs.Prelude.{◌<◌, ◌^◌, ◌*◌, ◌≡◌}
+use Rattle.laws.specs.Prelude.{ℕ, ◌∙◌, sym, ap, true, List, arith, length, take}
 use Rattle.rules.specs.Calls.Answers.{written}
 use Rattle.rules.specs.Groups.Marks.{mark_in, marks_of, marks_length, stored_marks, mark_stored, unpacked}
 use Rattle.rules.specs.Limits.{size_fits}

@@ -2,7 +2,8 @@
 -- Demand 3: "making refuses the table as having no tree exactly when no fanout-free tree of two-input gates .. computes it, whatever the
 -- tree's wiring and gate tables", and whatever its leaves: "inputs may stay unused" (document 02, K12). `LeafTrees` says which leaves are possible.
 -- Assumes nothing.
-use Rattle.laws.specs.Prelude.{ℕ, ◌<◌, ◌≤◌, ◌^◌, ◌≡◌, ◌∙◌, sym, ◌↔◌, iff_trans, iff_not, iff_symm, List, length}
+use Rattle.std.specs.Prelude.{◌<◌, ◌≤◌, ◌^◌, ◌≡◌, ◌↔◌}
+use Rattle.laws.specs.Prelude.{ℕ, ◌∙◌, sym, iff_trans, iff_not, iff_symm, List, length}
 use Rattle.rules.specs.Calls.Answers.{accepted, refused, ink_in}
 use Rattle.rules.specs.Calls.OpenCells.{read_full}
 use Rattle.rules.specs.Calls.Settling.{make_call}

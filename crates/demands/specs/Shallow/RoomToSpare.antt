@@ -1,7 +1,8 @@
 -- Document 02, K2: "Among equally shallow trees each group takes the part A of lowest number that keeps its own group shallowest." An example: a
 -- group that could be deeper without deepening the whole is still as shallow as it can be.
 -- Assumes nothing.
-use Rattle.laws.specs.Prelude.{ℕ, ◌+◌, ◌-◌, ◌*◌, ◌%◌, refl, get_or}
+use Rattle.std.specs.Prelude.{◌+◌, ◌-◌, ◌*◌, ◌%◌}
+use Rattle.laws.specs.Prelude.{ℕ, refl, get_or}
 use Rattle.rules.specs.Sheets.Sheets.{Table}
 use Rattle.rules.specs.Cases.ShallowCases.{ShallowHolds, makes, on, wrote_in}
 use Rattle.rules.specs.Cases.Written.{line_ends, paper, letter_names, by_rule}

@@ -1,6 +1,7 @@
 -- The buffers that shallow settling and making need are those of settling and making: "otherwise as document 01 has them".
 -- Assumes nothing.
-use Rattle.laws.specs.Prelude.{ℕ, ◌≡◌, List}
+use Rattle.std.specs.Prelude.{◌≡◌}
+use Rattle.laws.specs.Prelude.{ℕ, List}
 use Rattle.rules.specs.Calls.Answers.{accepted}
 use Rattle.rules.specs.Calls.OpenCells.{read_full}
 use Rattle.rules.specs.Calls.ShallowSettling.{shallow_net, settle_shallow_call, make_shallow_call}

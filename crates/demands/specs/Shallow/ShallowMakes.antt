@@ -1,7 +1,8 @@
 -- Document 02, shallow making: "Every other tree computing that table has at least as many layers, and the answer carries the count." What shallow
 -- making writes is an accepted net sheet with exactly the table and as many layers as it returns, and no net with that table has fewer.
 -- Assumes nothing.
-use Rattle.laws.specs.Prelude.{ℕ, ◌<◌, ◌≤◌, ◌^◌, ◌≡◌, ◌∙◌, sym, ap, refl, List, dec_lt, ℕ_discrete, arith, length, take}
+use Rattle.std.specs.Prelude.{◌<◌, ◌≤◌, ◌^◌, ◌≡◌}
+use Rattle.laws.specs.Prelude.{ℕ, ◌∙◌, sym, ap, refl, List, dec_lt, ℕ_discrete, arith, length, take}
 use Rattle.rules.specs.Calls.Answers.{accepted, refused, ink_in, onward, written}
 use Rattle.rules.specs.Calls.OpenCells.{read_full}
 use Rattle.rules.specs.Calls.Settling.{Made, made_into}

@@ -2,7 +2,8 @@
 -- count of layers, and leave the same cells and marks; so they refuse exactly when those do, with the same number and place, and change no other
 -- buffer. This holds for 15 too: net sheets with one header and the same leaves have the same length.
 -- Assumes nothing.
-use Rattle.laws.specs.Prelude.{ℕ, ◌≡◌, ap, refl, ◌↔◌, List, answer_cases}
+use Rattle.std.specs.Prelude.{◌≡◌, ◌↔◌}
+use Rattle.laws.specs.Prelude.{ℕ, ap, refl, List, answer_cases}
 use Rattle.rules.specs.Calls.Answers.{Answer, accepted, refused, onward}
 use Rattle.rules.specs.Calls.OpenCells.{read_full}
 use Rattle.rules.specs.Calls.Settling.{settled_net, made_into, settle_call, make_call}

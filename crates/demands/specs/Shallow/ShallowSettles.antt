@@ -2,7 +2,8 @@
 -- many layers as it returns, and no net with that table has fewer. It depends only on the table and the first three lines; shallow making
 -- writes the same.
 -- Assumes nothing.
-use Rattle.laws.specs.Prelude.{ℕ, ◌≤◌, ◌≡◌, ◌∙◌, sym, ap, ◌↔◌, List, length}
+use Rattle.std.specs.Prelude.{◌≤◌, ◌≡◌, ◌↔◌}
+use Rattle.laws.specs.Prelude.{ℕ, ◌∙◌, sym, ap, List, length}
 use Rattle.rules.specs.Calls.Answers.{Answer, accepted, ink_in}
 use Rattle.rules.specs.Calls.OpenCells.{read_full}
 use Rattle.rules.specs.Calls.ShallowSettling.{Layered, LayeredMade, shallow_net, net_layers, settle_shallow_call, make_shallow_call}

@@ -1,7 +1,8 @@
 -- Document 02: the call that "takes two net sheets and hands back the shallower sheet itself, the first when level. An unreadable sheet loses
 -- to a readable one, and two unreadable ones give an empty part of the first".
 -- Assumes nothing.
-use Rattle.laws.specs.Prelude.{ℕ, ◌<◌, ◌≤◌, ◌≡◌, ◌∙◌, ap, List, [], dec_lt, arith, lt-ltb, le-ltb, by_cases}
+use Rattle.std.specs.Prelude.{◌<◌, ◌≤◌, ◌≡◌}
+use Rattle.laws.specs.Prelude.{ℕ, ◌∙◌, ap, List, [], dec_lt, arith, lt-ltb, le-ltb, by_cases}
 use Rattle.rules.specs.Calls.Answers.{accepted, refused}
 use Rattle.rules.specs.Calls.ShallowSettling.{net_layers}
 use Rattle.rules.specs.Sheets.Reading.{read_net}

@@ -1,7 +1,8 @@
 -- A sheet's first three lines, as bytes. They determine its header: two accepted net sheets have the same first three lines exactly if
 -- they have the same levels, inputs and names.
 -- Assumes nothing.
-use Rattle.laws.specs.Prelude.{ℕ, ◌≡◌, ◌∙◌, sym, ap, ◌↔◌, List, [], ◌∷◌, ◌++◌, append_assoc, arith}
+use Rattle.std.specs.Prelude.{◌≡◌, ◌↔◌, ◌∷◌, ◌++◌}
+use Rattle.laws.specs.Prelude.{ℕ, ◌∙◌, sym, ap, List, [], append_assoc, arith}
 use Rattle.rules.specs.Calls.Answers.{accepted}
 use Rattle.rules.specs.Sheets.Fields.{Read, read}
 use Rattle.rules.specs.Sheets.Printed.{line, first_lines, printed_net}

@@ -1,6 +1,7 @@
 -- An accepted sheet of a full table (document 02, K13): which sheets these are, which rules their tables follow, and the numbers that refuse others.
 -- Assumes nothing.
-use Rattle.laws.specs.Prelude.{ℕ, ◌<◌, ◌^◌, ◌≡◌, ◌∙◌, sym, ap, refl, subst, ◌↔◌, List, [], ◌∷◌, arith, length}
+use Rattle.std.specs.Prelude.{◌<◌, ◌^◌, ◌≡◌, ◌↔◌, ◌∷◌}
+use Rattle.laws.specs.Prelude.{ℕ, ◌∙◌, sym, ap, refl, subst, List, [], arith, length}
 use Rattle.rules.specs.Calls.Answers.{accepted, refused, ink_in}
 use Rattle.rules.specs.Calls.OpenCells.{read_full}
 use Rattle.rules.specs.Lists.{all, any}

@@ -1,7 +1,8 @@
 -- The lengths that include/sitgurp.h calls "Buffers that always suffice: cells, marks, a net sheet, a table sheet." Each is at least what
 -- any accepted sheet needs, so with buffers of these lengths no call refuses with 13, 14 or 15.
 -- Assumes nothing.
-use Rattle.laws.specs.Prelude.{ℕ, ◌≤◌, ◌^◌, ◌≡◌, ◌∙◌, sym, ap, refl, subst₂, List, [], ◌∷◌, le_trans, arith, length, test_cases, answer_cases}
+use Rattle.std.specs.Prelude.{◌≤◌, ◌^◌, ◌≡◌, ◌∷◌}
+use Rattle.laws.specs.Prelude.{ℕ, ◌∙◌, sym, ap, refl, subst₂, List, [], le_trans, arith, length, test_cases, answer_cases}
 use Rattle.rules.specs.Calls.Answers.{Answer, accepted, refused, Named, net_named, table_named, neither}
 use Rattle.rules.specs.Calls.Checking.{turned_down, same_header, compared, Checked, check_call}
 use Rattle.rules.specs.Calls.OpenCells.{full_cells, read_full}

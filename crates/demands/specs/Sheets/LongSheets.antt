@@ -1,7 +1,8 @@
 -- Sheets that are longer than what a program reads: "A table sheet of 2 with 12 is longer than the making program's 65,536 bytes: the library takes
 -- it, and the program refuses with 1 at 65,536 a sheet without an earlier fault that hasn't ended by then." (document 02, K6)
 -- Assumes nothing.
-use Rattle.laws.specs.Prelude.{ℕ, ◌<◌, ◌≤◌, ◌≡◌, ap, ◌⊎◌, inl, inr, List, arith, length, take, take_all}
+use Rattle.std.specs.Prelude.{◌<◌, ◌≤◌, ◌≡◌, ◌⊎◌}
+use Rattle.laws.specs.Prelude.{ℕ, ap, inl, inr, List, arith, length, take, take_all}
 use Rattle.rules.specs.Calls.Answers.{accepted, refused}
 use Rattle.rules.specs.Calls.Settling.{make_call}
 use Rattle.rules.specs.Limits.{most_read}

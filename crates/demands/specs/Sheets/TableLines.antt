@@ -1,7 +1,8 @@
 -- A table sheet's first three lines, as bytes. They determine its header: two accepted table sheets have the same first three lines exactly if they
 -- have the same levels, inputs and names.
 -- Assumes nothing.
-use Rattle.laws.specs.Prelude.{ℕ, ◌<◌, ◌≡◌, ◌∙◌, sym, ap, refl, ◌↔◌, true, List, [], ◌∷◌, ◌++◌, append_assoc, append-nil, arith, length}
+use Rattle.std.specs.Prelude.{◌<◌, ◌≡◌, ◌↔◌, ◌∷◌, ◌++◌}
+use Rattle.laws.specs.Prelude.{ℕ, ◌∙◌, sym, ap, refl, true, List, [], append_assoc, append-nil, arith, length}
 use Rattle.rules.specs.Calls.Answers.{accepted}
 use Rattle.rules.specs.Lists.{all, concat_map}
 use Rattle.rules.specs.Sheets.Fields.{Read, read}

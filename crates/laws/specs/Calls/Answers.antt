@@ -1,6 +1,7 @@
 -- Laws of answers, and of a buffer after it is written.
 -- Assumes nothing.
-use Rattle.laws.specs.Prelude.{ℕ, ◌≡◌, refl, List, arith, length, take, drop, take_at}
+use Rattle.std.specs.Prelude.{◌≡◌}
+use Rattle.laws.specs.Prelude.{ℕ, refl, List, arith, length, take, drop, take_at}
 use Rattle.rules.specs.Calls.Answers.{accepted, refused, written}
 
 pub accepted_inj : {A : Type 0} (a b : A) → accepted a ≡ accepted b → a ≡ b

@@ -1,6 +1,7 @@
 -- The result of the call for arrival times, one law for each outcome.
 -- Assumes nothing.
-use Rattle.laws.specs.Prelude.{ℕ, ◌≡◌, List}
+use Rattle.std.specs.Prelude.{◌≡◌}
+use Rattle.laws.specs.Prelude.{ℕ, List}
 use Rattle.rules.specs.Calls.Answers.{accepted, refused}
 use Rattle.rules.specs.Nets.Arrivals.{settles, net_refused, arrivals_refused, ends_of, arrivals_call}
 use Rattle.rules.specs.Sheets.Reading.{read_net}

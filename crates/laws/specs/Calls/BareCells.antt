@@ -1,6 +1,7 @@
 -- The verdict on bare cells, one law for each outcome, and what follows if they are accepted.
 -- Assumes nothing.
-use Rattle.laws.specs.Prelude.{ℕ, ◌<◌, ◌≤◌, ◌^◌, ◌≡◌, ◌∙◌, sym, ap, refl, true, false, Bool, not, and-false, List, arith, eqb, leb, length, get_or}
+use Rattle.std.specs.Prelude.{◌<◌, ◌≤◌, ◌^◌, ◌≡◌}
+use Rattle.laws.specs.Prelude.{ℕ, ◌∙◌, sym, ap, refl, true, false, Bool, not, and-false, List, arith, eqb, leb, length, get_or}
 use Rattle.laws.specs.Prelude.{eq-eqb, eqb-true, ne_eqb, lt-ltb, le-ltb, eqb-false, le-leb, test_cases}
 use Rattle.rules.specs.Limits.{size_fits}
 use Rattle.rules.specs.Lists.{all, first_place}

@@ -1,6 +1,7 @@
 -- Two nets made of one table, whose sheets have the same length: the calls that make them have the same result except for the sheet in the output.
 -- Assumes nothing.
-use Rattle.laws.specs.Prelude.{ℕ, ◌≡◌, ap, refl, List, dec_lt, ℕ_discrete, arith, length}
+use Rattle.std.specs.Prelude.{◌≡◌}
+use Rattle.laws.specs.Prelude.{ℕ, ap, refl, List, dec_lt, ℕ_discrete, arith, length}
 use Rattle.rules.specs.Calls.Answers.{Answer, accepted, refused, written}
 use Rattle.rules.specs.Calls.Settling.{Made, written_sheet, room_for, made_into}
 use Rattle.rules.specs.Groups.Marks.{stored_marks}

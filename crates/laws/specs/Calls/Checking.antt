@@ -1,7 +1,8 @@
 -- The result of checking, one law for each outcome, and how a comparison of two lists of inks ends.
 -- Assumes nothing.
-use Rattle.laws.specs.Prelude.{ℕ, ◌<◌, ◌≤◌, ◌≡◌, ◌∙◌, refl, subst, ap₂, subst⁻¹, true, false, Bool, ◌&&◌, not, and-eq-true_iff, false≢true, List, []}
-use Rattle.laws.specs.Prelude.{◌∷◌, zero-add, dec_lt, arith, eqb, length, get_or, eq-eqb, eqb-true, lt-ltb, le-ltb, eqb-false, not-true, not-false}
+use Rattle.std.specs.Prelude.{◌<◌, ◌≤◌, ◌≡◌, ◌&&◌, ◌∷◌}
+use Rattle.laws.specs.Prelude.{ℕ, ◌∙◌, refl, subst, ap₂, subst⁻¹, true, false, Bool, not, and-eq-true_iff, false≢true, List, []}
+use Rattle.laws.specs.Prelude.{zero-add, dec_lt, arith, eqb, length, get_or, eq-eqb, eqb-true, lt-ltb, le-ltb, eqb-false, not-true, not-false}
 use Rattle.laws.specs.Prelude.{by_cases}
 use Rattle.rules.specs.Calls.Answers.{accepted, refused, written, net_named, table_named, neither}
 use Rattle.rules.specs.Calls.Checking.{turned_down, check_call, same_names_of, same_header, compared, checked_into, agree, differ}

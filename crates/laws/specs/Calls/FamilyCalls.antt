@@ -1,6 +1,7 @@
 -- The results of the two calls over a table's family of trees, one law for each outcome.
 -- Assumes nothing.
-use Rattle.laws.specs.Prelude.{ℕ, ◌<◌, ◌≤◌, ◌^◌, ◌≡◌, List, length, lt-ltb, le-ltb}
+use Rattle.std.specs.Prelude.{◌<◌, ◌≤◌, ◌^◌, ◌≡◌}
+use Rattle.laws.specs.Prelude.{ℕ, List, length, lt-ltb, le-ltb}
 use Rattle.rules.specs.Calls.Answers.{accepted, refused, written}
 use Rattle.rules.specs.Calls.FamilyCalls.{count_of_table, family_net, counted_into, family_count_call, after_count, numbered_into, family_tree_call}
 use Rattle.rules.specs.Calls.OpenCells.{read_full}

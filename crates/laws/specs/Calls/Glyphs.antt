@@ -1,12 +1,12 @@
 -- The result of the glyph call, one law for each outcome; and what it means, in inequalities, that a picture and offsets pass.
 -- Assumes nothing.
-use Rattle.laws.specs.Prelude.{ℕ, ◌<◌, ◌≤◌, ◌*◌, ◌≡◌, ◌↔◌, true, false, ◌&&◌, and-eq-true_iff, List, eqb, ltb, leb, length, get_or, eq-eqb, eqb-true}
+use Rattle.laws.specs.Prelude.{ℕ, true, false, and-eq-true_iff, List, eqb, ltb, leb, length, get_or, eq-eqb, eqb-true}
 use Rattle.laws.specs.Prelude.{lt-ltb, le-ltb, le-leb, leb-true, ltb-true}
 use Rattle.rules.specs.Calls.Answers.{accepted, refused, written}
 use Rattle.rules.specs.Lists.{all}
 use Rattle.rules.specs.Sheets.Reading.{read_net}
 use Rattle.rules.specs.Sheets.Sheets.{Net}
-use Rattle.std.specs.Prelude.{ℤ, pos, nat_abs}
+use Rattle.std.specs.Prelude.{ℤ, pos, nat_abs, ◌<◌, ◌≤◌, ◌*◌, ◌≡◌, ◌↔◌, ◌&&◌}
 use Rattle.rules.specs.Calls.Glyphs.{most_side, most_offset, glyph, side_fits, picture_fits, offsets_fit, glyph_judged, glyph_into, glyph_call}
 use Rattle.laws.specs.Lists.Places.{mem_get_or}
 use Rattle.laws.specs.Lists.Tests.{all_mem, all_each, both_leb}

@@ -1,6 +1,7 @@
 -- The results of opening a job, stepping, asking and finishing, one law for each outcome.
 -- Assumes nothing.
-use Rattle.laws.specs.Prelude.{ℕ, ◌<◌, ◌≤◌, ◌-◌, ◌^◌, ◌≡◌, ◌∙◌, or-true, List, eqb, eq-eqb, ne_eqb, lt-ltb, le-ltb, le-leb, lt-leb}
+use Rattle.std.specs.Prelude.{◌<◌, ◌≤◌, ◌-◌, ◌^◌, ◌≡◌}
+use Rattle.laws.specs.Prelude.{ℕ, ◌∙◌, or-true, List, eqb, eq-eqb, ne_eqb, lt-ltb, le-ltb, le-leb, lt-leb}
 use Rattle.rules.specs.Calls.Answers.{accepted, onward, refused}
 use Rattle.rules.specs.Calls.OpenCells.{full_cells, read_full}
 use Rattle.rules.specs.Calls.Settling.{settled_net, made_into}

@@ -1,6 +1,7 @@
 -- The result of keeping a wiring, one law for each outcome.
 -- Assumes nothing.
-use Rattle.laws.specs.Prelude.{ℕ, ◌<◌, ◌≤◌, suc, ◌≡◌, true, false, List, length, lt-ltb, le-ltb}
+use Rattle.std.specs.Prelude.{◌<◌, ◌≤◌, ◌≡◌}
+use Rattle.laws.specs.Prelude.{ℕ, suc, true, false, List, length, lt-ltb, le-ltb}
 use Rattle.rules.specs.Calls.Answers.{accepted, refused, written, net_named, table_named, neither}
 use Rattle.rules.specs.Calls.Checking.{same_header}
 use Rattle.rules.specs.Calls.Keeping.{kept_net, roomy_before, leaves_out, changed_gates, rewritten, turned_away, kept_into, keep_call}

@@ -1,6 +1,7 @@
 -- The result of the multiplicity call, one law for each outcome.
 -- Assumes nothing.
-use Rattle.laws.specs.Prelude.{ℕ, ◌<◌, ◌≤◌, ◌^◌, ◌≡◌, true, false, ◌||◌, or-true, List, eqb, leb, eq-eqb, ne_eqb, le-leb, lt-leb}
+use Rattle.std.specs.Prelude.{◌<◌, ◌≤◌, ◌^◌, ◌≡◌, ◌||◌}
+use Rattle.laws.specs.Prelude.{ℕ, true, false, or-true, List, eqb, leb, eq-eqb, ne_eqb, le-leb, lt-leb}
 use Rattle.rules.specs.Calls.Answers.{ink_in}
 use Rattle.rules.specs.Calls.OpenCells.{full_cells}
 use Rattle.rules.specs.Groups.Groups.{multiplicity}

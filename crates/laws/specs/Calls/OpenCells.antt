@@ -1,7 +1,8 @@
 -- The result of requiring a table without open cells: 27 at the lowest open index, or no cell is open. One law for each outcome, for a
 -- list of cells, for bare cells and for a table sheet.
 -- Assumes nothing.
-use Rattle.laws.specs.Prelude.{ℕ, ◌<◌, ◌≤◌, ◌^◌, ◌≡◌, ◌∙◌, sym, refl, true, false, List, dec_lt, arith, length, get_or, eq-eqb, eqb-true, ne_eqb, lt-ltb}
+use Rattle.std.specs.Prelude.{◌<◌, ◌≤◌, ◌^◌, ◌≡◌}
+use Rattle.laws.specs.Prelude.{ℕ, ◌∙◌, sym, refl, true, false, List, dec_lt, arith, length, get_or, eq-eqb, eqb-true, ne_eqb, lt-ltb}
 use Rattle.laws.specs.Prelude.{le-ltb, eqb-false, leb-true}
 use Rattle.rules.specs.Calls.Answers.{accepted, refused, onward}
 use Rattle.rules.specs.Calls.OpenCells.{is_open_of, full, full_cells, full_table, read_full}

@@ -1,6 +1,7 @@
 -- The results of settling and making, one law for each outcome, whatever net is made of a table.
 -- Assumes nothing.
-use Rattle.laws.specs.Prelude.{ℕ, ◌<◌, ◌≤◌, ◌^◌, ◌≡◌, ◌∙◌, sym, List, lt_of_not-le, dec_le, length, eq-eqb, ne_eqb, lt-ltb, le-ltb, by_cases}
+use Rattle.std.specs.Prelude.{◌<◌, ◌≤◌, ◌^◌, ◌≡◌}
+use Rattle.laws.specs.Prelude.{ℕ, ◌∙◌, sym, List, lt_of_not-le, dec_le, length, eq-eqb, ne_eqb, lt-ltb, le-ltb, by_cases}
 use Rattle.rules.specs.Calls.Answers.{accepted, refused, ink_in, written}
 use Rattle.rules.specs.Calls.OpenCells.{read_full}
 use Rattle.rules.specs.Calls.Settling.{Made, settled_net, written_sheet, after_marks, room_for, in_room, made_into, settle_call, make_call}

@@ -1,6 +1,7 @@
 -- The shallower of two sheets, one law for each outcome.
 -- Assumes nothing.
-use Rattle.laws.specs.Prelude.{ℕ, ◌<◌, ◌≤◌, ◌≡◌, refl, List, lt-ltb, le-ltb}
+use Rattle.std.specs.Prelude.{◌<◌, ◌≤◌, ◌≡◌}
+use Rattle.laws.specs.Prelude.{ℕ, refl, List, lt-ltb, le-ltb}
 use Rattle.rules.specs.Calls.Answers.{accepted, onward, refused}
 use Rattle.rules.specs.Calls.ShallowSettling.{net_layers}
 use Rattle.rules.specs.Sheets.Reading.{read_net}

@@ -1,6 +1,7 @@
 -- The result of table writing, one law for each outcome.
 -- Assumes nothing.
-use Rattle.laws.specs.Prelude.{ℕ, ◌<◌, ◌≤◌, ◌≡◌, List, length, lt-ltb, le-ltb}
+use Rattle.std.specs.Prelude.{◌<◌, ◌≤◌, ◌≡◌}
+use Rattle.laws.specs.Prelude.{ℕ, List, length, lt-ltb, le-ltb}
 use Rattle.rules.specs.Calls.Answers.{accepted, refused, written}
 use Rattle.rules.specs.Sheets.Printed.{printed_table}
 use Rattle.rules.specs.Sheets.Reading.{read_net, table_of_net}

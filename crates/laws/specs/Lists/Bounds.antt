@@ -1,6 +1,7 @@
 -- Lists all of whose numbers are below a bound.
 -- Assumes nothing.
-use Rattle.laws.specs.Prelude.{ℕ, ◌<◌, ◌≤◌, suc, zero, ◌≡◌, true, List, [], ◌∷◌, ◌++◌, map, arith, ltb, length, get_or, ltb-true}
+use Rattle.std.specs.Prelude.{◌<◌, ◌≤◌, ◌≡◌, ◌∷◌, ◌++◌}
+use Rattle.laws.specs.Prelude.{ℕ, suc, zero, true, List, [], map, arith, ltb, length, get_or, ltb-true}
 use Rattle.rules.specs.Lists.{all}
 use Rattle.laws.specs.Lists.Tests.{all_iff}
 

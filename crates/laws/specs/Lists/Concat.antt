@@ -1,6 +1,7 @@
 -- Laws of `concat_map` and `map`.
 -- Assumes nothing.
-use Rattle.laws.specs.Prelude.{ℕ, ◌<◌, ◌+◌, suc, ◌*◌, zero, ◌≡◌, ◌∙◌, sym, ap, refl, inl, inr, List, [], ◌∷◌, ◌++◌, map, Memᴰ, append_assoc}
+use Rattle.std.specs.Prelude.{◌<◌, ◌+◌, ◌*◌, ◌≡◌, ◌∷◌, ◌++◌}
+use Rattle.laws.specs.Prelude.{ℕ, suc, zero, ◌∙◌, sym, ap, refl, inl, inr, List, [], map, Memᴰ, append_assoc}
 use Rattle.laws.specs.Prelude.{mem_head, mem_not_nil, mem_tail, mem_append_cases, mem_append_right, mem_append_left, zero-add}
 use Rattle.laws.specs.Prelude.{zero-mul, suc-mul, add_comm, arith, length, get_or, length-append, get_or-append, get_or-append-add}
 use Rattle.rules.specs.Lists.{concat_map}

@@ -1,6 +1,7 @@
 -- How many elements of a list pass a test, and how often a number occurs in a list.
 -- Assumes nothing.
-use Rattle.laws.specs.Prelude.{ℕ, ◌<◌, ◌≤◌, ◌+◌, suc, zero, ◌≡◌, refl, by_cases, true, false, Bool, List, [], ◌∷◌, ◌++◌, map, dec_le, arith, eqb, length}
+use Rattle.std.specs.Prelude.{◌<◌, ◌≤◌, ◌+◌, ◌≡◌, ◌∷◌, ◌++◌}
+use Rattle.laws.specs.Prelude.{ℕ, suc, zero, refl, by_cases, true, false, Bool, List, [], map, dec_le, arith, eqb, length}
 use Rattle.laws.specs.Prelude.{ne_eqb}
 use Rattle.rules.specs.Lists.{range, any, those}
 use Rattle.laws.specs.Lists.Tests.{one_where, one_if_le, none_iff}

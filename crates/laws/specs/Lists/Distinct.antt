@@ -1,7 +1,8 @@
 -- Lists in which no element occurs twice.
 -- Assumes nothing.
-use Rattle.laws.specs.Prelude.{ℕ, ◌<◌, ◌≤◌, suc, zero, ◌≡◌, ◌∙◌, sym, ap, refl, subst⁻¹, ◌↔◌, by_cases, true, false, Bool, true≢false, List, [], ◌∷◌}
-use Rattle.laws.specs.Prelude.{◌++◌, dec_lt, arith, eqb, length, get_or, eq-eqb, eqb-true, ne_eqb, eqb-false, test_cases}
+use Rattle.std.specs.Prelude.{◌<◌, ◌≤◌, ◌≡◌, ◌↔◌, ◌∷◌, ◌++◌}
+use Rattle.laws.specs.Prelude.{ℕ, suc, zero, ◌∙◌, sym, ap, refl, subst⁻¹, by_cases, true, false, Bool, true≢false, List, []}
+use Rattle.laws.specs.Prelude.{dec_lt, arith, eqb, length, get_or, eq-eqb, eqb-true, ne_eqb, eqb-false, test_cases}
 use Rattle.rules.specs.Lists.{any, all}
 use Rattle.rules.specs.Sheets.SheetRules.{Distinct}
 use Rattle.laws.specs.Lists.Tests.{not_false_true, none_iff, none_append, none_mem, all_iff, any_cons}

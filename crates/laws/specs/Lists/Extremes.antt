@@ -1,6 +1,7 @@
 -- The largest of some numbers (`most`) and the smallest (`least`): it bounds them all, and is one of them.
 -- Assumes nothing.
-use Rattle.laws.specs.Prelude.{ℕ, ◌<◌, ◌≤◌, suc, ◌*◌, max, ◌≡◌, ◌∙◌, sym, ap, refl, ⊎_elim, List, [], ◌∷◌, ◌++◌, map, Memᴰ, mem_head}
+use Rattle.std.specs.Prelude.{◌<◌, ◌≤◌, ◌*◌, ◌≡◌, ◌∷◌, ◌++◌}
+use Rattle.laws.specs.Prelude.{ℕ, suc, max, ◌∙◌, sym, ap, refl, ⊎_elim, List, [], map, Memᴰ, mem_head}
 use Rattle.laws.specs.Prelude.{mem_not_nil, mem_tail, mem_cases_cons, mem_cast, mul-le-mul_right, max-eq_left, max-eq_right}
 use Rattle.laws.specs.Prelude.{max-zero, arith, max_cases, min_cases, length}
 use Rattle.rules.specs.Nets.Layers.{most}

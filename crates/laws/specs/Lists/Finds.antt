@@ -1,7 +1,8 @@
 -- The first element that a search finds, by `find`.
 -- Assumes nothing.
-use Rattle.laws.specs.Prelude.{ℕ, ◌<◌, ◌≤◌, ◌+◌, suc, zero, ◌≡◌, ◌∙◌, sym, ap, refl, subst, ◌↔◌, ◌≢◌, ⊎_elim, ◌⊎◌, inl, inr, true, false, Bool, ◌&&◌}
-use Rattle.laws.specs.Prelude.{true≢false, List, [], ◌∷◌, ◌++◌, Memᴰ, mem_head, mem_tail, mem_cases_cons, arith}
+use Rattle.std.specs.Prelude.{◌<◌, ◌≤◌, ◌+◌, ◌≡◌, ◌↔◌, ◌≢◌, ◌⊎◌, ◌&&◌, ◌∷◌, ◌++◌}
+use Rattle.laws.specs.Prelude.{ℕ, suc, zero, ◌∙◌, sym, ap, refl, subst, ⊎_elim, inl, inr, true, false, Bool}
+use Rattle.laws.specs.Prelude.{true≢false, List, [], Memᴰ, mem_head, mem_tail, mem_cases_cons, arith}
 use Rattle.rules.specs.Lists.{range, those, find}
 use Rattle.std.proofs.Math.Option.{Option, none, some, some-injective, none-ne-some}
 

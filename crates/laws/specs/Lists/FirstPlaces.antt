@@ -1,6 +1,7 @@
 -- The place of the first element that passes a test.
 -- Assumes nothing.
-use Rattle.laws.specs.Prelude.{ℕ, ◌<◌, ◌≤◌, ◌+◌, ◌-◌, suc, zero, ◌≡◌, ◌∙◌, sym, ap, refl, true, false, Bool, not, cond, ◌||◌, false≢true, List, [], ◌∷◌}
+use Rattle.std.specs.Prelude.{◌<◌, ◌≤◌, ◌+◌, ◌-◌, ◌≡◌, ◌||◌, ◌∷◌}
+use Rattle.laws.specs.Prelude.{ℕ, suc, zero, ◌∙◌, sym, ap, refl, true, false, Bool, not, cond, false≢true, List, []}
 use Rattle.laws.specs.Prelude.{map, zero-add, add-zero, suc-add, arith, ltb, leb-suc-suc, length, get_or, lt-ltb}
 use Rattle.rules.specs.Lists.{range, any, first_place, all}
 use Rattle.laws.specs.Lists.Tests.{any_cons}

@@ -1,6 +1,7 @@
 -- Things in sequence, each unlike those before it.
 -- Assumes nothing.
-use Rattle.laws.specs.Prelude.{◌≡◌, ◌∙◌, refl, ◌↔◌, false, Bool, List, [], ◌∷◌, ◌++◌}
+use Rattle.std.specs.Prelude.{◌≡◌, ◌↔◌, ◌∷◌, ◌++◌}
+use Rattle.laws.specs.Prelude.{◌∙◌, refl, false, Bool, List, []}
 use Rattle.rules.specs.Lists.{any}
 use Rattle.laws.specs.Lists.Tests.{none_iff, none_snoc}
 

@@ -1,6 +1,7 @@
 -- What is listed in `those`, and functions that agree on what is listed.
 -- Assumes nothing.
-use Rattle.laws.specs.Prelude.{◌≡◌, ◌∙◌, sym, ap, refl, ⊎_elim, ◌⊎◌, true, false, Bool, false≢true, List, [], ◌∷◌, map, Memᴰ, mem_head}
+use Rattle.std.specs.Prelude.{◌≡◌, ◌⊎◌, ◌∷◌}
+use Rattle.laws.specs.Prelude.{◌∙◌, sym, ap, refl, ⊎_elim, true, false, Bool, false≢true, List, [], map, Memᴰ, mem_head}
 use Rattle.laws.specs.Prelude.{mem_not_nil, mem_tail, mem_cases_cons}
 use Rattle.rules.specs.Lists.{those}
 

@@ -1,6 +1,7 @@
 -- A part of a list after a paste into it.
 -- Assumes nothing.
-use Rattle.laws.specs.Prelude.{ℕ, ◌<◌, ◌≤◌, ◌+◌, suc, zero, ◌≡◌, ◌∙◌, sym, ap, refl, List, [], ◌∷◌, ◌++◌, append_assoc, add-zero, suc-add, add-suc}
+use Rattle.std.specs.Prelude.{◌<◌, ◌≤◌, ◌+◌, ◌≡◌, ◌∷◌, ◌++◌}
+use Rattle.laws.specs.Prelude.{ℕ, suc, zero, ◌∙◌, sym, ap, refl, List, [], append_assoc, add-zero, suc-add, add-suc}
 use Rattle.laws.specs.Prelude.{arith, length, get_or, take, drop, set, length-set, length-drop, take-append-drop, get_or-set_same, get_or-set_other}
 use Rattle.laws.specs.Prelude.{length-take-le, take_at, paste, sets, take_all, drop_at, drop-append-le, take-append-le}
 

@@ -1,6 +1,7 @@
 -- Pigeonhole: there are at most k different numbers below k.
 -- Assumes nothing.
-use Rattle.laws.specs.Prelude.{ℕ, ◌<◌, ◌≤◌, suc, zero, suc-le-suc, zero-le, ◌≡◌, ◌∙◌, sym, refl, true, false, Bool, cond, le_refl, le_of_suc-le-suc}
+use Rattle.std.specs.Prelude.{◌<◌, ◌≤◌, ◌≡◌}
+use Rattle.laws.specs.Prelude.{ℕ, suc, zero, suc-le-suc, zero-le, ◌∙◌, sym, refl, true, false, Bool, cond, le_refl, le_of_suc-le-suc}
 use Rattle.laws.specs.Prelude.{not-suc-le-zero, le_step, dec_lt, arith, eqb, eqb-true, eqb-false, lt_of_le-ne, by_cases, test_cases}
 
 -- the first c values are pairwise different

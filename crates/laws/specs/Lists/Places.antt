@@ -1,6 +1,7 @@
 -- Lists read by place.
 -- Assumes nothing.
-use Rattle.laws.specs.Prelude.{ℕ, ◌<◌, suc, zero, ◌≡◌, sym, refl, inl, inr, List, [], ◌∷◌, ◌++◌, map, Memᴰ, mem_head, mem_not_nil}
+use Rattle.std.specs.Prelude.{◌<◌, ◌≡◌, ◌∷◌, ◌++◌}
+use Rattle.laws.specs.Prelude.{ℕ, suc, zero, sym, refl, inl, inr, List, [], map, Memᴰ, mem_head, mem_not_nil}
 use Rattle.laws.specs.Prelude.{mem_tail, mem_cases_cons, le_of_suc-le-suc, not-suc-le-zero, arith, length, get_or, length-append}
 
 -- the element at a place is listed

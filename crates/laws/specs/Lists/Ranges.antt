@@ -1,6 +1,7 @@
 -- Laws of `range`.
 -- Assumes nothing.
-use Rattle.laws.specs.Prelude.{ℕ, ◌<◌, ◌≤◌, ◌+◌, ◌-◌, suc, zero, ◌≡◌, ◌∙◌, sym, ap, refl, inl, inr, List, [], ◌∷◌, ◌++◌, map, Memᴰ, mem_head}
+use Rattle.std.specs.Prelude.{◌<◌, ◌≤◌, ◌+◌, ◌-◌, ◌≡◌, ◌∷◌, ◌++◌}
+use Rattle.laws.specs.Prelude.{ℕ, suc, zero, ◌∙◌, sym, ap, refl, inl, inr, List, [], map, Memᴰ, mem_head}
 use Rattle.laws.specs.Prelude.{mem_not_nil, mem_tail, mem_cases_cons, map-append, zero-add, add-zero, suc-add, add-suc}
 use Rattle.laws.specs.Prelude.{eq-or-lt_of_le, add-one, arith, length, get_or, length-map, replicate, ext_get_or}
 use Rattle.rules.specs.Lists.{range}

@@ -1,6 +1,7 @@
 -- A list of equally long rows, read by row and column.
 -- Assumes nothing.
-use Rattle.laws.specs.Prelude.{ℕ, ◌<◌, ◌+◌, suc, ◌*◌, zero, ◌≡◌, ◌∙◌, ap, ap₂, List, [], ◌∷◌, map, zero-add, zero-mul, suc-mul, le_of_suc-le-suc, arith}
+use Rattle.std.specs.Prelude.{◌<◌, ◌+◌, ◌*◌, ◌≡◌, ◌∷◌}
+use Rattle.laws.specs.Prelude.{ℕ, suc, zero, ◌∙◌, ap, ap₂, List, [], map, zero-add, zero-mul, suc-mul, le_of_suc-le-suc, arith}
 use Rattle.laws.specs.Prelude.{length, get_or, get_or-append, get_or-append-add}
 use Rattle.rules.specs.Lists.{range, concat_map}
 use Rattle.laws.specs.Lists.Concat.{concat_length}

@@ -1,6 +1,7 @@
 -- Laws of `run` and `past`, and of the spaces at the front.
 -- Assumes nothing.
-use Rattle.laws.specs.Prelude.{ℕ, ◌≤◌, ◌+◌, suc, ◌≡◌, ◌∙◌, sym, ap, refl, true, false, List, [], ◌∷◌, ◌++◌, arith, eqb, length, take, drop}
+use Rattle.std.specs.Prelude.{◌≤◌, ◌+◌, ◌≡◌, ◌∷◌, ◌++◌}
+use Rattle.laws.specs.Prelude.{ℕ, suc, ◌∙◌, sym, ap, refl, true, false, List, [], arith, eqb, length, take, drop}
 use Rattle.laws.specs.Prelude.{length-append, drop-append_seam, take-append_seam, test_cases}
 use Rattle.rules.specs.Sheets.Fields.{is_separator, run, past, past_spaces, spaces_in}
 use Rattle.rules.specs.Text.{space}

@@ -1,6 +1,7 @@
 -- Laws of `same`: the same numbers in the same order.
 -- Assumes nothing.
-use Rattle.laws.specs.Prelude.{ℕ, ◌<◌, ◌≤◌, ◌+◌, suc, ◌≡◌, ◌∙◌, sym, ap, refl, ap₂, true, false, Bool, ◌&&◌, and-eq-true_iff, false≢true, List, [], ◌∷◌}
+use Rattle.std.specs.Prelude.{◌<◌, ◌≤◌, ◌+◌, ◌≡◌, ◌&&◌, ◌∷◌}
+use Rattle.laws.specs.Prelude.{ℕ, suc, ◌∙◌, sym, ap, refl, ap₂, true, false, Bool, and-eq-true_iff, false≢true, List, []}
 use Rattle.laws.specs.Prelude.{add-one, eqb, length, get_or, drop, drop_of_length-le, drop-cons, eq-eqb, eqb-true, ne_eqb}
 use Rattle.rules.specs.Lists.{same}
 use Rattle.laws.specs.Lists.Tests.{two_ways}

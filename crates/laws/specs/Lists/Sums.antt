@@ -1,6 +1,7 @@
 -- Sums over the numbers below a bound.
 -- Assumes nothing.
-use Rattle.laws.specs.Prelude.{ℕ, ◌<◌, ◌≤◌, ◌+◌, suc, zero, ◌≡◌, ◌∙◌, ap, refl, subst⁻¹, true, false, Bool, cond, List, [], ◌∷◌, ◌++◌, map, Memᴰ}
+use Rattle.std.specs.Prelude.{◌<◌, ◌≤◌, ◌+◌, ◌≡◌, ◌∷◌, ◌++◌}
+use Rattle.laws.specs.Prelude.{ℕ, suc, zero, ◌∙◌, ap, refl, subst⁻¹, true, false, Bool, cond, List, [], map, Memᴰ}
 use Rattle.laws.specs.Prelude.{mem_head, mem_append_right, mem_append_left, ℕ_discrete, arith, by_cases}
 use Rattle.rules.specs.Lists.{range, those, total}
 use Rattle.laws.specs.Lists.Ranges.{range_suc}

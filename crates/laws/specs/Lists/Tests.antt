@@ -1,7 +1,8 @@
 -- Laws of tests: two tests together, and the tests of lists (`all`, `any`).
 -- Assumes nothing.
-use Rattle.laws.specs.Prelude.{ℕ, ◌<◌, ◌≤◌, ◌+◌, suc, ◌≡◌, ◌∙◌, sym, ap, refl, ap₂, ◌↔◌, true, false, Bool, ◌&&◌, true≢false, and-eq-true_iff, cond}
-use Rattle.laws.specs.Prelude.{◌||◌, or-false, or_assoc, List, [], ◌∷◌, ◌++◌, map, Memᴰ, mem_head, mem_tail, arith, eqb, leb, length}
+use Rattle.std.specs.Prelude.{◌<◌, ◌≤◌, ◌+◌, ◌≡◌, ◌↔◌, ◌&&◌, ◌||◌, ◌∷◌, ◌++◌}
+use Rattle.laws.specs.Prelude.{ℕ, suc, ◌∙◌, sym, ap, refl, ap₂, true, false, Bool, true≢false, and-eq-true_iff, cond}
+use Rattle.laws.specs.Prelude.{or-false, or_assoc, List, [], map, Memᴰ, mem_head, mem_tail, arith, eqb, leb, length}
 use Rattle.laws.specs.Prelude.{get_or, eq-eqb, eqb-true, ne_eqb, le-leb, leb-true, test_cases}
 use Rattle.rules.specs.Lists.{all, any}
 

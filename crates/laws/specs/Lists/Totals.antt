@@ -1,8 +1,9 @@
 -- Sums over lists, and how to go from a number to a part and back: parts are in sequence, each with its own count, and a number stands for a
 -- part and a number below that part's count.
 -- Assumes nothing.
-use Rattle.laws.specs.Prelude.{ℕ, ◌<◌, ◌≤◌, ◌+◌, ◌-◌, suc, zero, ◌≡◌, ◌∙◌, sym, ap, refl, ap₂, ◌⊎◌, inl, inr, true, false, Bool, cond, ◌||◌, false≢true}
-use Rattle.laws.specs.Prelude.{List, [], ◌∷◌, ◌++◌, map, Memᴰ, mem_head, mem_not_nil, mem_tail, mem_cases_cons, zero-add}
+use Rattle.std.specs.Prelude.{◌<◌, ◌≤◌, ◌+◌, ◌-◌, ◌≡◌, ◌⊎◌, ◌||◌, ◌∷◌, ◌++◌}
+use Rattle.laws.specs.Prelude.{ℕ, suc, zero, ◌∙◌, sym, ap, refl, ap₂, inl, inr, true, false, Bool, cond, false≢true}
+use Rattle.laws.specs.Prelude.{List, [], map, Memᴰ, mem_head, mem_not_nil, mem_tail, mem_cases_cons, zero-add}
 use Rattle.laws.specs.Prelude.{add-zero, suc-add, arith, eqb, ltb, eq-eqb, eqb-true, ne_eqb, lt-ltb, eqb-false, ltb-true, ltb-false, test_cases}
 use Rattle.rules.specs.Lists.{range, any, those, first_place, total}
 use Rattle.rules.specs.Nets.Family.{Numbered, numbered_at}

@@ -1,6 +1,7 @@
 -- Walking a list or a range from the front: what is known about the rest from a place on, one step further, and where the walk stops.
 -- Assumes nothing.
-use Rattle.laws.specs.Prelude.{ℕ, ◌<◌, ◌≤◌, ◌+◌, ◌-◌, ◌≡◌, ◌∙◌, sym, ap, true, false, Bool, List, ◌∷◌, map, add-zero, add-one, arith, length, get_or}
+use Rattle.std.specs.Prelude.{◌<◌, ◌≤◌, ◌+◌, ◌-◌, ◌≡◌, ◌∷◌}
+use Rattle.laws.specs.Prelude.{ℕ, ◌∙◌, sym, ap, true, false, Bool, List, map, add-zero, add-one, arith, length, get_or}
 use Rattle.laws.specs.Prelude.{drop, drop_of_length-le, drop-cons}
 use Rattle.rules.specs.Lists.{range, all, any, find, first_place}
 use Rattle.std.proofs.Math.Option.{none, some}

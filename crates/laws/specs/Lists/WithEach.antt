@@ -1,7 +1,8 @@
 -- Entries that are added one by one, each computed from all before it: for two lists of items, how many there are, and which stay. Used for the wires
 -- of a gate list: one law for a step over its gates.
 -- Assumes nothing.
-use Rattle.laws.specs.Prelude.{ℕ, ◌<◌, ◌+◌, ◌≡◌, ◌∙◌, refl, List, [], ◌∷◌, ◌++◌, map, arith, length, get_or, get_or-append, get_or-append_seam}
+use Rattle.std.specs.Prelude.{◌<◌, ◌+◌, ◌≡◌, ◌∷◌, ◌++◌}
+use Rattle.laws.specs.Prelude.{ℕ, ◌∙◌, refl, List, [], map, arith, length, get_or, get_or-append, get_or-append_seam}
 use Rattle.rules.specs.Lists.{with_each}
 use Rattle.rules.specs.Sheets.SheetRules.{RefersBack}
 use Rattle.rules.specs.Sheets.Sheets.{Gate}

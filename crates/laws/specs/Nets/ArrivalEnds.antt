@@ -1,6 +1,7 @@
 -- The two ends of an arrival, and of each of a list of arrivals.
 -- Assumes nothing.
-use Rattle.laws.specs.Prelude.{ℕ, ◌≤◌, suc, zero, ◌≡◌, sym, refl, true, false, Bool, List, [], ◌∷◌, arith, eqb, get_or, eq-eqb, eqb-true, ne_eqb}
+use Rattle.std.specs.Prelude.{◌≤◌, ◌≡◌, ◌∷◌}
+use Rattle.laws.specs.Prelude.{ℕ, suc, zero, sym, refl, true, false, Bool, List, [], arith, eqb, get_or, eq-eqb, eqb-true, ne_eqb}
 use Rattle.laws.specs.Prelude.{eqb-false}
 use Rattle.rules.specs.Limits.{most_time}
 use Rattle.rules.specs.Sheets.ArrivalSheet.{Arrival, fixed, between, arrival_of, earliest_of, latest_of, ArrivalRules, EachArrivalRules}

@@ -1,6 +1,7 @@
 -- An ink as a field of a row: a digit below m, or the sign of an open cell (document 02, K13).
 -- Assumes nothing.
-use Rattle.laws.specs.Prelude.{ℕ, ◌-◌, ◌≡◌, true, false, Bool, [], ◌∷◌, eqb, eq-eqb, ne_eqb}
+use Rattle.std.specs.Prelude.{◌-◌, ◌≡◌, ◌∷◌}
+use Rattle.laws.specs.Prelude.{ℕ, true, false, Bool, [], eqb, eq-eqb, ne_eqb}
 use Rattle.rules.specs.Sheets.Fields.{Judged, good, bad, judged}
 use Rattle.rules.specs.Sheets.Sheets.{ink_field, ink_byte}
 use Rattle.rules.specs.Text.{digit_byte, open_byte, is_digit}

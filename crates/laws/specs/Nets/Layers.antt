@@ -1,6 +1,7 @@
 -- The layers of a gate list are its settling time if every input arrives at 0 and each gate takes 1.
 -- Assumes nothing.
-use Rattle.laws.specs.Prelude.{ℕ, ◌<◌, ◌+◌, ◌-◌, suc, zero, max, ◌≡◌, ◌∙◌, sym, ap, refl, ap₂, List, [], ◌∷◌, ◌++◌, map, arith, length, get_or}
+use Rattle.std.specs.Prelude.{◌<◌, ◌+◌, ◌-◌, ◌≡◌, ◌∷◌, ◌++◌}
+use Rattle.laws.specs.Prelude.{ℕ, suc, zero, max, ◌∙◌, sym, ap, refl, ap₂, List, [], map, arith, length, get_or}
 use Rattle.laws.specs.Prelude.{length-append, length-map, replicate}
 use Rattle.rules.specs.Lists.{range, with_each}
 use Rattle.rules.specs.Sheets.SheetRules.{RefersBack}

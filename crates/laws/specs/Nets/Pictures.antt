@@ -1,11 +1,11 @@
 -- The new picture, cell by cell: each is the entry of the net's table at the levels that are read.
 -- Assumes nothing.
-use Rattle.laws.specs.Prelude.{ℕ, ◌<◌, ◌≤◌, ◌+◌, ◌^◌, ◌*◌, ◌≡◌, ◌∙◌, sym, ap, refl, true, false, Bool, ◌&&◌, and-eq-true_iff, and-false, List, map}
+use Rattle.laws.specs.Prelude.{ℕ, ◌∙◌, sym, ap, refl, true, false, Bool, and-eq-true_iff, and-false, List, map}
 use Rattle.laws.specs.Prelude.{zero-add, mul_comm, ltb, length, get_or, lt-ltb, le-ltb, ltb-true, digits_lt}
 use Rattle.rules.specs.Lists.{range}
 use Rattle.rules.specs.Nets.Value.{value, table_of, value_with}
 use Rattle.rules.specs.Sheets.Sheets.{Gate, Net, levels_at}
-use Rattle.std.specs.Prelude.{ℤ, pos, negsuc, ◌+ℤ◌}
+use Rattle.std.specs.Prelude.{ℤ, pos, negsuc, ◌+ℤ◌, ◌<◌, ◌≤◌, ◌+◌, ◌^◌, ◌*◌, ◌≡◌, ◌&&◌}
 use Rattle.rules.specs.Calls.Glyphs.{level_at, across, down, levels_read, new_cell, glyph}
 use Rattle.laws.specs.Lists.Ranges.{map_range_length, map_range_at, range_length, range_at}
 use Rattle.laws.specs.Lists.Concat.{concat_length, concat_at}

@@ -1,7 +1,8 @@
 -- The settling time of a gate list, whatever its wiring: with later arrivals at the used inputs it is no earlier, and in a finer unit it is the same
 -- time. "Arrival times count used inputs only." (document 02, K12)
 -- Assumes nothing.
-use Rattle.laws.specs.Prelude.{ℕ, ◌≤◌, ◌+◌, ◌*◌, ◌≡◌, ◌∙◌, sym, ap, List, Memᴰ, add-mul, mul_right_comm, arith, get_or}
+use Rattle.std.specs.Prelude.{◌≤◌, ◌+◌, ◌*◌, ◌≡◌}
+use Rattle.laws.specs.Prelude.{ℕ, ◌∙◌, sym, ap, List, Memᴰ, add-mul, mul_right_comm, arith, get_or}
 use Rattle.rules.specs.Nets.Arrivals.{gates_on_way, used_inputs, settling_time}
 use Rattle.rules.specs.Sheets.Sheets.{Gate}
 use Rattle.laws.specs.Lists.Extremes.{most_more, most_same, most_times}

@@ -1,6 +1,7 @@
 -- Marks stored four to a byte (document 02, K7): one more byte, how many bytes there are, and that unpacking what was packed gives the marks back.
 -- Assumes nothing.
-use Rattle.laws.specs.Prelude.{ℕ, ◌<◌, ◌≤◌, ◌+◌, ◌^◌, suc, ◌*◌, zero, ◌%◌, ◌/◌, ◌≡◌, ◌∙◌, sym, ap, refl, ap₂, List, [], ◌∷◌, ◌++◌, pow-suc, zero-div}
+use Rattle.std.specs.Prelude.{◌<◌, ◌≤◌, ◌+◌, ◌^◌, ◌*◌, ◌%◌, ◌/◌, ◌≡◌, ◌∷◌, ◌++◌}
+use Rattle.laws.specs.Prelude.{ℕ, suc, zero, ◌∙◌, sym, ap, refl, ap₂, List, [], pow-suc, zero-div}
 use Rattle.laws.specs.Prelude.{div-one, arith, length, get_or, take, drop, set, get_or-append, length-take-le, drop-cons, append_snoc, set_at}
 use Rattle.rules.specs.Calls.Answers.{written}
 use Rattle.rules.specs.Groups.Marks.{mark_in, marks_length, stored_marks, mark_stored, unpacked}

@@ -1,6 +1,7 @@
 -- When each reference of a gate list settles, one number for each: an input when it arrives, a gate one delay after the later of the two it joins.
 -- Assumes nothing.
-use Rattle.laws.specs.Prelude.{ℕ, ◌≤◌, ◌+◌, suc, ◌*◌, zero, max, List, [], ◌∷◌, ◌++◌, mul-suc, arith, length, get_or}
+use Rattle.std.specs.Prelude.{◌≤◌, ◌+◌, ◌*◌, ◌∷◌, ◌++◌}
+use Rattle.laws.specs.Prelude.{ℕ, suc, zero, max, List, [], mul-suc, arith, length, get_or}
 use Rattle.rules.specs.Lists.{with_each}
 use Rattle.rules.specs.Sheets.Sheets.{Gate}
 

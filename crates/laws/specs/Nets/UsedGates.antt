@@ -1,6 +1,7 @@
 -- Every earlier gate is used: the test that reading makes (`earlier_used`) agrees with the rule for a net (`EarlierUsed`).
 -- Assumes nothing.
-use Rattle.laws.specs.Prelude.{ℕ, ◌-◌, ◌≡◌, true, List, arith, length}
+use Rattle.std.specs.Prelude.{◌-◌, ◌≡◌}
+use Rattle.laws.specs.Prelude.{ℕ, true, List, arith, length}
 use Rattle.rules.specs.Lists.{range}
 use Rattle.rules.specs.Sheets.SheetRules.{EarlierUsed}
 use Rattle.rules.specs.Sheets.Sheets.{Gate, earlier_used}

@@ -1,7 +1,8 @@
 -- Assignments: "An assignment gives each input a level." Each assignment is the levels of exactly one index, so a statement about every
 -- index below m to the n is a statement about every assignment.
 -- Assumes nothing.
-use Rattle.laws.specs.Prelude.{ℕ, ◌<◌, ◌+◌, ◌^◌, suc, ◌*◌, zero, ◌/◌, ◌≡◌, ◌∙◌, sym, ap, refl, subst, ◌↔◌, List, [], ◌∷◌, ◌++◌, append_assoc}
+use Rattle.std.specs.Prelude.{◌<◌, ◌+◌, ◌^◌, ◌*◌, ◌/◌, ◌≡◌, ◌↔◌, ◌∷◌, ◌++◌}
+use Rattle.laws.specs.Prelude.{ℕ, suc, zero, ◌∙◌, sym, ap, refl, subst, List, [], append_assoc}
 use Rattle.laws.specs.Prelude.{append-nil, zero-add, add-zero, pow-suc, pow-zero, div-lt_iff_lt-mul, div-add-mod', suc-add, add-suc, arith, length}
 use Rattle.laws.specs.Prelude.{get_or, digits_lt, digits_mod, digits_div, lt-one}
 use Rattle.rules.specs.Lists.{range}

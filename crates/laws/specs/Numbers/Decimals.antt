@@ -1,6 +1,7 @@
 -- Decimal values digit by digit, and how long they are.
 -- Assumes nothing.
-use Rattle.laws.specs.Prelude.{ℕ, ◌<◌, ◌≤◌, ◌^◌, suc, zero, ◌%◌, ◌/◌, ◌≡◌, ◌∙◌, sym, ap, List, [], ◌∷◌, ◌++◌, pow-suc, dec_le, arith, length}
+use Rattle.std.specs.Prelude.{◌<◌, ◌≤◌, ◌^◌, ◌%◌, ◌/◌, ◌≡◌, ◌∷◌, ◌++◌}
+use Rattle.laws.specs.Prelude.{ℕ, suc, zero, ◌∙◌, sym, ap, List, [], pow-suc, dec_le, arith, length}
 use Rattle.laws.specs.Prelude.{length-append, lt-ltb, le-ltb, by_cases}
 use Rattle.rules.specs.Text.{digit_byte, decimal_f, decimal}
 

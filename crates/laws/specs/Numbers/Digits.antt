@@ -1,6 +1,7 @@
 -- The bytes of digits, and which bytes are a decimal value: at least one digit, digits alone, and no needless zero in front.
 -- Assumes nothing.
-use Rattle.laws.specs.Prelude.{ℕ, ◌<◌, ◌≤◌, ◌+◌, ◌-◌, ◌^◌, suc, ◌*◌, ◌%◌, ◌/◌, ◌≡◌, ◌∙◌, ap, refl, ap₂, ◌↔◌, true, false, List, [], ◌∷◌, ◌++◌}
+use Rattle.std.specs.Prelude.{◌<◌, ◌≤◌, ◌+◌, ◌-◌, ◌^◌, ◌*◌, ◌%◌, ◌/◌, ◌≡◌, ◌↔◌, ◌∷◌, ◌++◌}
+use Rattle.laws.specs.Prelude.{ℕ, suc, ◌∙◌, ap, refl, ap₂, true, false, List, []}
 use Rattle.laws.specs.Prelude.{append-nil, dec_lt, arith, length, get_or, length-append, get_or-append, append_snoc}
 use Rattle.rules.specs.Lists.{all}
 use Rattle.rules.specs.Text.{digit_byte, is_digit, decimal, value_of, is_decimal}

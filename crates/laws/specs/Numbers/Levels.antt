@@ -1,7 +1,8 @@
 -- The levels of an index, and their count: "The input levels count upward from all zeros, last input fastest."
 -- Assumes nothing.
-use Rattle.laws.specs.Prelude.{ℕ, ◌<◌, ◌≤◌, ◌+◌, ◌-◌, suc, ◌*◌, zero, ◌%◌, ◌/◌, ◌≡◌, ◌∙◌, sym, ap, refl, true, false, Bool, ◌&&◌, cond, and-false, List}
-use Rattle.laws.specs.Prelude.{[], ◌∷◌, ◌++◌, zero-add, suc-mul, pow-zero, mod-lt, div-add-mod', pow-succ', zero-div, div-div-eq-div-mul, div-one}
+use Rattle.std.specs.Prelude.{◌<◌, ◌≤◌, ◌+◌, ◌-◌, ◌*◌, ◌%◌, ◌/◌, ◌≡◌, ◌&&◌, ◌∷◌, ◌++◌}
+use Rattle.laws.specs.Prelude.{ℕ, suc, zero, ◌∙◌, sym, ap, refl, true, false, Bool, cond, and-false, List}
+use Rattle.laws.specs.Prelude.{[], zero-add, suc-mul, pow-zero, mod-lt, div-add-mod', pow-succ', zero-div, div-div-eq-div-mul, div-one}
 use Rattle.laws.specs.Prelude.{zero-mod, add-one, dec_le, arith, leb, length, get_or, take, drop, length-append, replicate, length-drop, take_at, le-leb}
 use Rattle.laws.specs.Prelude.{lt-leb, digits_mod, digits_div}
 use Rattle.rules.specs.Lists.{range}

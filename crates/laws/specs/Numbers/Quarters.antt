@@ -1,11 +1,11 @@
 -- Whole numbers of quarters as doubles. Below 2 to the power 53 each is exact, so sums and order of doubles are those of the whole numbers.
 -- Assumes nothing.
-use Rattle.laws.specs.Prelude.{ℕ, ◌<◌, ◌≤◌, ◌+◌, ◌^◌, ◌*◌, max, ◌≡◌, ◌∙◌, sym, ap, refl, subst, ap₂, true, false, true≢false, cond, mul-le-mul_right}
+use Rattle.laws.specs.Prelude.{ℕ, max, ◌∙◌, sym, ap, refl, subst, ap₂, true, false, true≢false, cond, mul-le-mul_right}
 use Rattle.laws.specs.Prelude.{lt_of_lt_of_le, mul_comm, mul_assoc, add-mul, lt_of_le_of_lt, le_of_lt, mul-pos, max-eq_left, max-eq_right}
 use Rattle.laws.specs.Prelude.{mul_right_comm, eq_of_mul-eq-mul_right, le-max_left, le-max_right, le_of_mul-le-mul_right, lt_of_mul-lt-mul_right}
 use Rattle.laws.specs.Prelude.{mul-lt-mul_of_pos_right, dec_lt, arith, ltb, lit<, lit≤, lt-ltb, le-ltb, pow_mono, shl_lt, by_cases}
 use Rattle.rules.specs.Nets.Arrivals.{quarter}
-use Rattle.std.specs.Prelude.{pos, negsuc, Float}
+use Rattle.std.specs.Prelude.{pos, negsuc, Float, ◌<◌, ◌≤◌, ◌+◌, ◌^◌, ◌*◌, ◌≡◌}
 use Rattle.std.specs.Float.{fin}
 use Rattle.std.specs.Float.Ieee.{binary64, up, down, round, add, sum, mul, lt, of_int, of_bits}
 use Rattle.std.specs.Float.Ieee.Exact.{HasValue, round_exact}

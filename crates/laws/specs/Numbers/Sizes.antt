@@ -1,6 +1,7 @@
 -- The bounds of levels, inputs and cells as inequalities.
 -- Assumes nothing.
-use Rattle.laws.specs.Prelude.{ℕ, ◌≤◌, ◌+◌, ◌-◌, ◌^◌, ◌≡◌, ◌↔◌, true, Bool, ◌&&◌, not, and-eq-true_iff, ◌||◌, arith, leb, le-leb, leb-true}
+use Rattle.std.specs.Prelude.{◌≤◌, ◌+◌, ◌-◌, ◌^◌, ◌≡◌, ◌↔◌, ◌&&◌, ◌||◌}
+use Rattle.laws.specs.Prelude.{ℕ, true, Bool, not, and-eq-true_iff, arith, leb, le-leb, leb-true}
 use Rattle.rules.specs.Limits.{fewest_levels, most_levels, fewest_inputs, most_inputs, most_cells, levels_fit, inputs_fit, cells_fit_of, size_fits}
 use Rattle.rules.specs.Lists.{range, all}
 use Rattle.rules.specs.Sheets.SheetRules.{HeaderRules}

@@ -1,6 +1,7 @@
 -- The numbers and places with which an arrival sheet is refused, and the bytes that decide it.
 -- Assumes nothing.
-use Rattle.laws.specs.Prelude.{ℕ, refl, ◌&&◌, List, [], ◌∷◌, leb}
+use Rattle.std.specs.Prelude.{◌&&◌, ◌∷◌}
+use Rattle.laws.specs.Prelude.{ℕ, refl, List, [], leb}
 use Rattle.rules.specs.Limits.{most_time}
 use Rattle.rules.specs.Lists.{any, same}
 use Rattle.rules.specs.Sheets.Fields.{strict}

@@ -1,6 +1,7 @@
 -- Arrival sheets: what was printed is read back, and what was accepted is exactly what would be printed and follows every rule.
 -- Assumes nothing.
-use Rattle.laws.specs.Prelude.{ℕ, ◌≤◌, ◌≡◌, sym, refl, ◌↔◌, true, ◌&&◌, and-eq-true_iff, List, [], ◌∷◌, ◌++◌, append_assoc, append-nil, arith, leb, length}
+use Rattle.std.specs.Prelude.{◌≤◌, ◌≡◌, ◌↔◌, ◌&&◌, ◌∷◌, ◌++◌}
+use Rattle.laws.specs.Prelude.{ℕ, sym, refl, true, and-eq-true_iff, List, [], append_assoc, append-nil, arith, leb, length}
 use Rattle.laws.specs.Prelude.{le-leb, leb-true}
 use Rattle.rules.specs.Calls.Answers.{accepted}
 use Rattle.rules.specs.Limits.{most_time}

@@ -1,7 +1,8 @@
 -- The lines of a sheet as document 01's lister counts them: where line k starts and how long it is. In an accepted net sheet the gate lines
 -- are the lines after the first four, each within the sheet with its line feed, and the sheet ends after the last.
 -- Assumes nothing.
-use Rattle.laws.specs.Prelude.{ℕ, ◌<◌, ◌≤◌, ◌+◌, ◌-◌, suc, zero, ◌≡◌, ◌∙◌, sym, ap, refl, ap₂, subst⁻¹, true, List, [], ◌∷◌, ◌++◌, append_assoc, append-nil}
+use Rattle.std.specs.Prelude.{◌<◌, ◌≤◌, ◌+◌, ◌-◌, ◌≡◌, ◌∷◌, ◌++◌}
+use Rattle.laws.specs.Prelude.{ℕ, suc, zero, ◌∙◌, sym, ap, refl, ap₂, subst⁻¹, true, List, [], append_assoc, append-nil}
 use Rattle.laws.specs.Prelude.{arith, eqb, length, get_or, take, drop, length-append, length-map, length-take-le, take_at, append_snoc, drop_at, drop-drop}
 use Rattle.laws.specs.Prelude.{split_at, not-true}
 use Rattle.rules.specs.Calls.Answers.{accepted, refused, onward}

@@ -1,6 +1,7 @@
 -- Gate lines: each refers back, to references that no earlier line uses.
 -- Assumes nothing.
-use Rattle.laws.specs.Prelude.{ℕ, ◌<◌, ◌≤◌, ◌+◌, suc, zero, ◌≡◌, ◌∙◌, sym, ap, refl, ◌↔◌, ⊎_elim, ◌⊎◌, inl, inr, false, List, [], ◌∷◌, ◌++◌, map}
+use Rattle.std.specs.Prelude.{◌<◌, ◌≤◌, ◌+◌, ◌≡◌, ◌↔◌, ◌⊎◌, ◌∷◌, ◌++◌}
+use Rattle.laws.specs.Prelude.{ℕ, suc, zero, ◌∙◌, sym, ap, refl, ⊎_elim, inl, inr, false, List, [], map}
 use Rattle.laws.specs.Prelude.{append_assoc, append-nil, arith, eqb, length, length-append, append_snoc}
 use Rattle.rules.specs.Lists.{any, concat_map}
 use Rattle.rules.specs.Sheets.Fields.{read, Reader, give}

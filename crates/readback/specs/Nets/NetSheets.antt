@@ -1,6 +1,7 @@
 -- Net sheets: what the reader of a net sheet spells. It reads to the sheet's end, then checks that earlier gates are used.
 -- Assumes nothing.
-use Rattle.laws.specs.Prelude.{ℕ, ◌<◌, ◌+◌, ◌-◌, ◌≡◌, ◌∙◌, sym, ap, refl, fun_ext, List, [], ◌∷◌, ◌++◌, append_assoc, append-nil, add-zero, arith, eqb}
+use Rattle.std.specs.Prelude.{◌<◌, ◌+◌, ◌-◌, ◌≡◌, ◌∷◌, ◌++◌}
+use Rattle.laws.specs.Prelude.{ℕ, ◌∙◌, sym, ap, refl, fun_ext, List, [], append_assoc, append-nil, add-zero, arith, eqb}
 use Rattle.laws.specs.Prelude.{length, read_cases}
 use Rattle.rules.specs.Lists.{all, concat_map}
 use Rattle.rules.specs.Sheets.Fields.{Read, read, turned_back, Reader, then, ◌>>=◌, give, is_separator, field, the_word, closed}

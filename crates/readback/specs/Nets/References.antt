@@ -1,6 +1,7 @@
 -- References: what a field of a gate line refers to. Different references are written differently.
 -- Assumes nothing.
-use Rattle.laws.specs.Prelude.{ℕ, ◌<◌, ◌≤◌, ◌+◌, ◌-◌, ◌≡◌, ◌∙◌, sym, ap, refl, true, false, Bool, not, false≢true, List, [], ◌∷◌, arith, eqb, ltb, length}
+use Rattle.std.specs.Prelude.{◌<◌, ◌≤◌, ◌+◌, ◌-◌, ◌≡◌, ◌∷◌}
+use Rattle.laws.specs.Prelude.{ℕ, ◌∙◌, sym, ap, refl, true, false, Bool, not, false≢true, List, [], arith, eqb, ltb, length}
 use Rattle.laws.specs.Prelude.{get_or, not-true, ltb-true, ltb-false, test_cases}
 use Rattle.rules.specs.Lists.{any, all}
 use Rattle.rules.specs.Sheets.Fields.{good}

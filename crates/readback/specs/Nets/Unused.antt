@@ -1,7 +1,8 @@
 -- "26, an earlier gate is never used, place the sheet's length, judged last in the net sheet" (document 02, K12): a net sheet is refused with 26
 -- exactly if it follows every other rule and some earlier gate is never used; the place is its length.
 -- Assumes nothing.
-use Rattle.laws.specs.Prelude.{ℕ, ◌≡◌, ◌∙◌, sym, ap, refl, subst, ◌↔◌, true, false, Bool, List, [], ◌∷◌, ◌++◌, append-nil, arith, length}
+use Rattle.std.specs.Prelude.{◌≡◌, ◌↔◌, ◌∷◌, ◌++◌}
+use Rattle.laws.specs.Prelude.{ℕ, ◌∙◌, sym, ap, refl, subst, true, false, Bool, List, [], append-nil, arith, length}
 use Rattle.rules.specs.Calls.Answers.{refused}
 use Rattle.rules.specs.Lists.{any}
 use Rattle.rules.specs.Sheets.Fields.{Read, read, turned_back, then, give}

@@ -1,6 +1,7 @@
 -- The numbers with which a reader refuses, for any list of numbers that contains 1: they are those of its fields' judges.
 -- Assumes nothing.
-use Rattle.laws.specs.Prelude.{ℕ, ◌+◌, suc, ◌≡◌, sym, refl, subst, true, false, Bool, List, [], ◌∷◌, arith, eqb, read_cases, judged_cases}
+use Rattle.std.specs.Prelude.{◌+◌, ◌≡◌, ◌∷◌}
+use Rattle.laws.specs.Prelude.{ℕ, suc, sym, refl, subst, true, false, Bool, List, [], arith, eqb, read_cases, judged_cases}
 use Rattle.rules.specs.Calls.Answers.{Answer, refused}
 use Rattle.rules.specs.Lists.{same}
 use Rattle.rules.specs.Sheets.Fields.{Read, read, turned_back, Reader, then, ◌>>=◌, give, Judged, bad, Judge, judged, run, past, separator, past_spaces}

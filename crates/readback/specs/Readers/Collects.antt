@@ -1,6 +1,7 @@
 -- Readers that read several things of a kind, one after another, and append them to those read before.
 -- Assumes nothing.
-use Rattle.laws.specs.Prelude.{ℕ, suc, ◌≡◌, sym, ap, refl, fun_ext, ◌↔◌, List, [], ◌∷◌, ◌++◌, append-nil, arith, length, append_snoc}
+use Rattle.std.specs.Prelude.{◌≡◌, ◌↔◌, ◌∷◌, ◌++◌}
+use Rattle.laws.specs.Prelude.{ℕ, suc, sym, ap, refl, fun_ext, List, [], append-nil, arith, length, append_snoc}
 use Rattle.rules.specs.Sheets.Fields.{Read, read, turned_back, Reader, then, ◌>>=◌, give}
 use Rattle.readback.specs.Readers.Spells.{Spells, spells_give, spells_then, spells_as}
 

@@ -2,7 +2,8 @@
 -- 1 or, for a short text, the number that is judged last. A refusal before the end stays, however the text continues, once the text is so long
 -- that no field which might still become good reaches its end. Stated once for readers; the laws here combine such readers.
 -- Assumes nothing.
-use Rattle.laws.specs.Prelude.{ℕ, ◌<◌, ◌≤◌, ◌+◌, suc, ◌≡◌, ◌∙◌, sym, ap, refl, true, false, Bool, List, [], ◌∷◌, ◌++◌, append-nil, le_trans, lt_of_not-le}
+use Rattle.std.specs.Prelude.{◌<◌, ◌≤◌, ◌+◌, ◌≡◌, ◌∷◌, ◌++◌}
+use Rattle.laws.specs.Prelude.{ℕ, suc, ◌∙◌, sym, ap, refl, true, false, Bool, List, [], append-nil, le_trans, lt_of_not-le}
 use Rattle.laws.specs.Prelude.{arith, eqb, length, length-append, read_cases, judged_cases}
 use Rattle.rules.specs.Sheets.Fields.{Read, read, turned_back, Reader, then, ◌>>=◌, give, good, bad, Judge, run, past, separator, after_field_in, field_of}
 use Rattle.rules.specs.Sheets.Fields.{field_of_in, field, field_in, closed}

@@ -1,6 +1,7 @@
 -- Decimal values and digits: they are words, and different numbers have different decimal values.
 -- Assumes nothing.
-use Rattle.laws.specs.Prelude.{ℕ, ◌<◌, ◌≤◌, ◌≡◌, ◌∙◌, sym, ap, refl, true, Bool, List, [], ◌∷◌, arith, length, ne_eqb}
+use Rattle.std.specs.Prelude.{◌<◌, ◌≤◌, ◌≡◌, ◌∷◌}
+use Rattle.laws.specs.Prelude.{ℕ, ◌∙◌, sym, ap, refl, true, Bool, List, [], arith, length, ne_eqb}
 use Rattle.rules.specs.Lists.{all}
 use Rattle.rules.specs.Sheets.Fields.{is_separator}
 use Rattle.rules.specs.Text.{space, newline, is_digit, decimal, value_of}

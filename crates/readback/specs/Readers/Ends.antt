@@ -1,7 +1,8 @@
 -- Where a net sheet may end: after any gate line (`or_end`), if every earlier gate has been used (`all_used`). For these two readers: what they spell,
 -- which bytes decide, and the numbers with which they refuse.
 -- Assumes nothing.
-use Rattle.laws.specs.Prelude.{ℕ, ◌<◌, ◌≡◌, ◌∙◌, sym, ap, refl, ⊎_elim, ◌⊎◌, inl, inr, true, false, Bool, List, [], ◌∷◌, ◌++◌, add-zero, arith, length, take}
+use Rattle.std.specs.Prelude.{◌<◌, ◌≡◌, ◌⊎◌, ◌∷◌, ◌++◌}
+use Rattle.laws.specs.Prelude.{ℕ, ◌∙◌, sym, ap, refl, ⊎_elim, inl, inr, true, false, Bool, List, [], add-zero, arith, length, take}
 use Rattle.laws.specs.Prelude.{length-append}
 use Rattle.rules.specs.Sheets.Fields.{Read, read, turned_back, Reader}
 use Rattle.rules.specs.Sheets.Sheets.{Gate, or_end, earlier_used, all_used}

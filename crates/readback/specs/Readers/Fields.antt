@@ -1,6 +1,7 @@
 -- One field of a sheet: the words that a judge accepts, each followed by the separator that is due, in either layout.
 -- Assumes nothing.
-use Rattle.laws.specs.Prelude.{ℕ, ◌+◌, suc, ◌≡◌, ◌∙◌, sym, ap, refl, ap₂, true, false, Bool, not, false≢true, List, [], ◌∷◌, ◌++◌, append_assoc, arith, eqb}
+use Rattle.std.specs.Prelude.{◌+◌, ◌≡◌, ◌∷◌, ◌++◌}
+use Rattle.laws.specs.Prelude.{ℕ, suc, ◌∙◌, sym, ap, refl, ap₂, true, false, Bool, not, false≢true, List, [], append_assoc, arith, eqb}
 use Rattle.laws.specs.Prelude.{length, eq-eqb, eqb-true, not-true, judged_cases}
 use Rattle.rules.specs.Lists.{all, same}
 use Rattle.rules.specs.Sheets.Fields.{Read, read, turned_back, then, ◌>>=◌, give, Judged, good, bad, Judge, judged, is_separator, run, past, separator, strict}

@@ -2,7 +2,8 @@
 -- refusal depends only on the bytes before its place, the byte there and the field there. Stated once for readers, with the
 -- place at which each stops; the laws here combine such readers.
 -- Assumes nothing.
-use Rattle.laws.specs.Prelude.{ℕ, ◌≤◌, ◌+◌, suc, ◌≡◌, ◌∙◌, sym, ap, refl, ap₂, true, false, Bool, List, [], ◌∷◌, ◌++◌, append_assoc, zero-add, add-zero}
+use Rattle.std.specs.Prelude.{◌≤◌, ◌+◌, ◌≡◌, ◌∷◌, ◌++◌}
+use Rattle.laws.specs.Prelude.{ℕ, suc, ◌∙◌, sym, ap, refl, ap₂, true, false, Bool, List, [], append_assoc, zero-add, add-zero}
 use Rattle.laws.specs.Prelude.{suc-add, add-suc, add-one, arith, eqb, length, take, drop, length-append, append_snoc, drop_at, take-append-add, eq-eqb}
 use Rattle.laws.specs.Prelude.{eqb-true, test_cases, read_cases, judged_cases}
 use Rattle.rules.specs.Sheets.Fields.{Read, read, turned_back, Reader, then, ◌>>=◌, give, Judged, good, bad, Judge, is_separator, run, past, separator}

@@ -1,7 +1,8 @@
 -- The judges of single fields, each with the words that it accepts: levels, inputs, names, a gate's digits, a row's levels and its ink.
 -- Assumes nothing.
-use Rattle.laws.specs.Prelude.{ℕ, ◌<◌, ◌≤◌, ◌+◌, ◌-◌, ◌*◌, ◌≡◌, ◌∙◌, sym, ap, refl, ap₂, true, false, Bool, ◌&&◌, not, and-eq-true_iff, ◌||◌, false≢true}
-use Rattle.laws.specs.Prelude.{List, [], ◌∷◌, map, mul-pos, ℕ_discrete, arith, eqb, leb, length, get_or, length-map, get_or-map, eq-eqb, eqb-true, not-true}
+use Rattle.std.specs.Prelude.{◌<◌, ◌≤◌, ◌+◌, ◌-◌, ◌*◌, ◌≡◌, ◌&&◌, ◌||◌, ◌∷◌}
+use Rattle.laws.specs.Prelude.{ℕ, ◌∙◌, sym, ap, refl, ap₂, true, false, Bool, not, and-eq-true_iff, false≢true}
+use Rattle.laws.specs.Prelude.{List, [], map, mul-pos, ℕ_discrete, arith, eqb, leb, length, get_or, length-map, get_or-map, eq-eqb, eqb-true, not-true}
 use Rattle.laws.specs.Prelude.{leb-true, by_cases}
 use Rattle.rules.specs.Limits.{levels_fit, inputs_fit, cells_fit_of, fewest_inputs, most_inputs}
 use Rattle.rules.specs.Lists.{range, all, any, same, find}

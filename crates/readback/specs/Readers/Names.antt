@@ -1,6 +1,7 @@
 -- Names: how a line of names is read, and that good names are distinct.
 -- Assumes nothing.
-use Rattle.laws.specs.Prelude.{ℕ, ◌<◌, suc, zero, ◌≡◌, refl, ◌↔◌, true, false, List, [], ◌∷◌, ◌++◌, append-nil, arith, length, get_or}
+use Rattle.std.specs.Prelude.{◌<◌, ◌≡◌, ◌↔◌, ◌∷◌, ◌++◌}
+use Rattle.laws.specs.Prelude.{ℕ, suc, zero, refl, true, false, List, [], append-nil, arith, length, get_or}
 use Rattle.rules.specs.Lists.{any, same}
 use Rattle.rules.specs.Sheets.Fields.{is_separator}
 use Rattle.rules.specs.Sheets.SheetRules.{GoodNames}

@@ -1,6 +1,7 @@
 -- The numbers with which a sheet is refused: a net sheet with 1, 2, 3, 4, 6, 7, 8 or 26, a table sheet with 1 to 6, a loose one with these and 20.
 -- Assumes nothing.
-use Rattle.laws.specs.Prelude.{ℕ, ◌+◌, ◌-◌, ◌^◌, suc, ◌*◌, zero, ◌≡◌, sym, refl, true, false, Bool, ◌&&◌, not, List, [], ◌∷◌, ◌++◌, map, eqb, length}
+use Rattle.std.specs.Prelude.{◌+◌, ◌-◌, ◌^◌, ◌*◌, ◌≡◌, ◌&&◌, ◌∷◌, ◌++◌}
+use Rattle.laws.specs.Prelude.{ℕ, suc, zero, sym, refl, true, false, Bool, not, List, [], map, eqb, length}
 use Rattle.rules.specs.Limits.{levels_fit, cells_fit_of}
 use Rattle.rules.specs.Lists.{all, any, same}
 use Rattle.rules.specs.Sheets.Fields.{Read, read, turned_back, Judged, bad, judged, strict, loose, Layout, the_word}

@@ -1,7 +1,8 @@
 -- Where a sheet is refused. The place is at most the sheet's length. "Sheets are judged from the front, field by field": the bytes after
 -- the refused field and the byte that follows it do not matter.
 -- Assumes nothing.
-use Rattle.laws.specs.Prelude.{ℕ, ◌≤◌, suc, ◌≡◌, ap, refl, List, zero-add, arith, length, take, drop}
+use Rattle.std.specs.Prelude.{◌≤◌, ◌≡◌}
+use Rattle.laws.specs.Prelude.{ℕ, suc, ap, refl, List, zero-add, arith, length, take, drop}
 use Rattle.rules.specs.Calls.Answers.{Answer, refused}
 use Rattle.rules.specs.Sheets.Fields.{Read, read, turned_back, Reader, run}
 use Rattle.rules.specs.Sheets.Reading.{answered, read_net, read_table}

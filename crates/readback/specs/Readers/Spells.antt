@@ -1,7 +1,8 @@
 -- A reader and the texts that it reads. Reading is inverted once, reader by reader: a reader spells some values in some
 -- texts if it reads each of those texts back and accepts nothing else. The laws here combine such readers.
 -- Assumes nothing.
-use Rattle.laws.specs.Prelude.{ℕ, ◌≡◌, ◌∙◌, sym, ap, refl, List, [], ◌++◌, append_assoc, arith, read_cases}
+use Rattle.std.specs.Prelude.{◌≡◌, ◌++◌}
+use Rattle.laws.specs.Prelude.{ℕ, ◌∙◌, sym, ap, refl, List, [], append_assoc, arith, read_cases}
 use Rattle.rules.specs.Sheets.Fields.{Read, read, turned_back, Reader, then, ◌>>=◌, give}
 
 -- `r` reads the texts `print x`, with value `value x`, if what follows such a text satisfies `Before`; it reads no others, and what it leaves

@@ -1,7 +1,8 @@
 -- One walk over the readers of every sheet. If a property of readers is preserved by giving a value, by chaining two readers and by reading a field,
 -- it holds for the reader of a sheet, since that is built from these. `Among`, `FromFront` and `Goes` are such properties.
 -- Assumes nothing.
-use Rattle.laws.specs.Prelude.{ℕ, ◌-◌, ◌^◌, suc, zero, List, [], ◌∷◌, ◌++◌, length}
+use Rattle.std.specs.Prelude.{◌-◌, ◌^◌, ◌∷◌, ◌++◌}
+use Rattle.laws.specs.Prelude.{ℕ, suc, zero, List, [], length}
 use Rattle.rules.specs.Sheets.Fields.{Reader, ◌>>=◌, give, Judge, Layout, strict, field_in, the_word, closed}
 use Rattle.rules.specs.Sheets.Sheets.{Gate, levels_field, inputs_field, name_field, name_fields_in, header_lines_in, reference_field, digits_field, used_by, gate_line}
 use Rattle.rules.specs.Sheets.Sheets.{or_end, gate_lines, all_used, net_sheet, levels_at, level_field, ink_field, level_fields, row_lines, table_sheet}

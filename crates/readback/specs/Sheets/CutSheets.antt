@@ -3,8 +3,9 @@
 -- part with fewer gate lines says nothing about the sheet, which may be accepted too, as another net. So "a sheet without an earlier fault that
 -- hasn't ended by then" (document 02, K6), cut there, is refused with 1 at the cut: for every sheet, and every cut after the first lines.
 -- Assumes nothing.
-use Rattle.laws.specs.Prelude.{ℕ, ◌<◌, ◌≤◌, ◌+◌, ◌-◌, ◌^◌, suc, ◌*◌, zero, ◌≡◌, ◌∙◌, sym, ap, refl, ap₂, subst⁻¹, true, false, Bool, ◌&&◌, not}
-use Rattle.laws.specs.Prelude.{and-eq-true_iff, List, [], ◌∷◌, ◌++◌, map, zero-add, mul-le-mul, arith, eqb, length, take, drop, length-append, length-drop}
+use Rattle.std.specs.Prelude.{◌<◌, ◌≤◌, ◌+◌, ◌-◌, ◌^◌, ◌*◌, ◌≡◌, ◌&&◌, ◌∷◌, ◌++◌}
+use Rattle.laws.specs.Prelude.{ℕ, suc, zero, ◌∙◌, sym, ap, refl, ap₂, subst⁻¹, true, false, Bool, not}
+use Rattle.laws.specs.Prelude.{and-eq-true_iff, List, [], map, zero-add, mul-le-mul, arith, eqb, length, take, drop, length-append, length-drop}
 use Rattle.laws.specs.Prelude.{take-append-drop, length-take-le, eqb-true, read_cases}
 use Rattle.rules.specs.Calls.Answers.{Answer, accepted, refused}
 use Rattle.rules.specs.Limits.{cells_fit_of, most_levels, most_inputs}

@@ -1,6 +1,7 @@
 -- The first three lines of a sheet.
 -- Assumes nothing.
-use Rattle.laws.specs.Prelude.{ℕ, ◌≡◌, sym, refl, true, List, [], ◌∷◌, ◌++◌, append_assoc, append-nil}
+use Rattle.std.specs.Prelude.{◌≡◌, ◌∷◌, ◌++◌}
+use Rattle.laws.specs.Prelude.{ℕ, sym, refl, true, List, [], append_assoc, append-nil}
 use Rattle.rules.specs.Lists.{all, same}
 use Rattle.rules.specs.Sheets.Fields.{is_separator}
 use Rattle.rules.specs.Sheets.Printed.{line}

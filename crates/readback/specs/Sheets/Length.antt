@@ -1,6 +1,7 @@
 -- "the settled sheet's length, which is never over 512": this holds for every accepted net sheet.
 -- Assumes nothing.
-use Rattle.laws.specs.Prelude.{ℕ, ◌<◌, ◌≤◌, ◌+◌, ◌-◌, suc, ◌*◌, refl, List, [], ◌∷◌, mul-le-mul_right, le_trans, arith, length, get_or, length-append}
+use Rattle.std.specs.Prelude.{◌<◌, ◌≤◌, ◌+◌, ◌-◌, ◌*◌, ◌∷◌}
+use Rattle.laws.specs.Prelude.{ℕ, suc, refl, List, [], mul-le-mul_right, le_trans, arith, length, get_or, length-append}
 use Rattle.laws.specs.Prelude.{length-map}
 use Rattle.rules.specs.Limits.{cells_fit_of, most_settled}
 use Rattle.rules.specs.Lists.{range, all, concat_map}

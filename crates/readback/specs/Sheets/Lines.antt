@@ -1,7 +1,8 @@
 -- A sheet as lines: its text is each line's bytes, then a line feed, and no line contains a line feed. This holds for a printed net, since its
 -- fields are words.
 -- Assumes nothing.
-use Rattle.laws.specs.Prelude.{ℕ, ◌<◌, suc, zero, ◌≡◌, ◌∙◌, sym, ap, refl, true, false, Bool, not, ◌||◌, false≢true, List, [], ◌∷◌, ◌++◌, map, append_assoc}
+use Rattle.std.specs.Prelude.{◌<◌, ◌≡◌, ◌||◌, ◌∷◌, ◌++◌}
+use Rattle.laws.specs.Prelude.{ℕ, suc, zero, ◌∙◌, sym, ap, refl, true, false, Bool, not, false≢true, List, [], map, append_assoc}
 use Rattle.laws.specs.Prelude.{append-nil, arith, eqb, length, append_snoc, not-true}
 use Rattle.rules.specs.Lists.{all, concat_map}
 use Rattle.rules.specs.Sheets.Fields.{is_separator}

@@ -1,7 +1,8 @@
 -- The two laws of sheets, for net sheets and for table sheets: reading what was printed gives it back, and what was accepted is
 -- exactly what would be printed and follows every rule.
 -- Assumes nothing.
-use Rattle.laws.specs.Prelude.{ℕ, ◌≡◌, ◌∙◌, ap, refl, ◌↔◌, List, [], ◌++◌, append-nil, arith}
+use Rattle.std.specs.Prelude.{◌≡◌, ◌↔◌, ◌++◌}
+use Rattle.laws.specs.Prelude.{ℕ, ◌∙◌, ap, refl, List, [], append-nil, arith}
 use Rattle.rules.specs.Calls.Answers.{Answer, accepted, refused}
 use Rattle.rules.specs.Sheets.Fields.{Read, read, turned_back, Reader}
 use Rattle.rules.specs.Sheets.Printed.{printed_net, printed_table}

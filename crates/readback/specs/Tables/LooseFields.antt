@@ -1,7 +1,8 @@
 -- A field of a loose sheet: the words that a judge accepts, each followed by one or more spaces if a space is due, or by any number of spaces and
 -- the line feed if that is due.
 -- Assumes nothing.
-use Rattle.laws.specs.Prelude.{ℕ, ◌+◌, suc, zero, ◌≡◌, ◌∙◌, sym, ap, refl, true, false, Bool, false≢true, List, [], ◌∷◌, ◌++◌, append_assoc, arith, eqb}
+use Rattle.std.specs.Prelude.{◌+◌, ◌≡◌, ◌∷◌, ◌++◌}
+use Rattle.laws.specs.Prelude.{ℕ, suc, zero, ◌∙◌, sym, ap, refl, true, false, Bool, false≢true, List, [], append_assoc, arith, eqb}
 use Rattle.laws.specs.Prelude.{replicate, eqb-true, test_cases}
 use Rattle.rules.specs.Sheets.Fields.{read, turned_back, then, Judge, is_separator, separator, past_spaces, spaces_in, spaces, loose, loose_separator, field_in}
 use Rattle.rules.specs.Text.{space, newline}

@@ -1,7 +1,8 @@
 -- Where a loose sheet is refused: the place is at most the sheet's length. The place of a repeated row is its first field, which is before what is
 -- judged then. So each reader is considered with a place that is not after its start.
 -- Assumes nothing.
-use Rattle.laws.specs.Prelude.{ℕ, ◌≤◌, ◌+◌, ◌^◌, suc, ◌*◌, zero, ◌≡◌, ◌∙◌, ap, refl, true, false, Bool, List, [], ◌∷◌, ◌++◌, arith, eqb, length, test_cases}
+use Rattle.std.specs.Prelude.{◌≤◌, ◌+◌, ◌^◌, ◌*◌, ◌≡◌, ◌∷◌, ◌++◌}
+use Rattle.laws.specs.Prelude.{ℕ, suc, zero, ◌∙◌, ap, refl, true, false, Bool, List, [], arith, eqb, length, test_cases}
 use Rattle.laws.specs.Prelude.{length-append}
 use Rattle.rules.specs.Calls.Answers.{refused}
 use Rattle.rules.specs.Lists.{any}

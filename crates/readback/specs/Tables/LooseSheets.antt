@@ -1,6 +1,7 @@
 -- Loose table sheets: what the reader of a loose sheet spells.
 -- Assumes nothing.
-use Rattle.laws.specs.Prelude.{ℕ, ◌<◌, ◌≤◌, ◌+◌, ◌^◌, suc, ◌*◌, zero, ◌≡◌, ◌∙◌, sym, ap, refl, subst, subst⁻¹, ◌↔◌, true, false, Bool, List, [], ◌∷◌, ◌++◌}
+use Rattle.std.specs.Prelude.{◌<◌, ◌≤◌, ◌+◌, ◌^◌, ◌*◌, ◌≡◌, ◌↔◌, ◌∷◌, ◌++◌}
+use Rattle.laws.specs.Prelude.{ℕ, suc, zero, ◌∙◌, sym, ap, refl, subst, subst⁻¹, true, false, Bool, List, []}
 use Rattle.laws.specs.Prelude.{map, append_assoc, append-nil, arith, eqb, length, append_snoc}
 use Rattle.rules.specs.Calls.Answers.{accepted}
 use Rattle.rules.specs.Lists.{all, any, same}

@@ -1,7 +1,8 @@
 -- The table of a loose sheet: each row gives its ink to the assignment that it names, every assignment is named by exactly one row, and so the table
 -- follows the rules of a table sheet. A strict sheet is a loose one, with its rows in order, and is the sheet of its own table.
 -- Assumes nothing.
-use Rattle.laws.specs.Prelude.{ℕ, ◌<◌, ◌≤◌, ◌+◌, ◌^◌, suc, zero, ◌≡◌, ◌∙◌, sym, ap, refl, subst⁻¹, true, false, Bool, false≢true, List, [], ◌∷◌, ◌++◌, map}
+use Rattle.std.specs.Prelude.{◌<◌, ◌≤◌, ◌+◌, ◌^◌, ◌≡◌, ◌∷◌, ◌++◌}
+use Rattle.laws.specs.Prelude.{ℕ, suc, zero, ◌∙◌, sym, ap, refl, subst⁻¹, true, false, Bool, false≢true, List, [], map}
 use Rattle.laws.specs.Prelude.{append_assoc, zero-add, arith, eqb, length, get_or, length-map, ext_get_or, eq-eqb, eqb-true, ne_eqb, test_cases}
 use Rattle.rules.specs.Calls.Answers.{accepted}
 use Rattle.rules.specs.Lists.{range, any, find}

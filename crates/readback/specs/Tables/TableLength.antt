@@ -1,7 +1,8 @@
 -- How long an accepted table sheet can be, and which are longer than what a program reads.
 -- Assumes nothing.
-use Rattle.laws.specs.Prelude.{ℕ, ◌<◌, ◌≤◌, ◌+◌, ◌^◌, suc, ◌*◌, ◌≡◌, ◌∙◌, sym, ap, refl, ap₂, ◌⊎◌, inl, inr, true, false, Bool, ◌&&◌, and-eq-true_iff, ◌||◌}
-use Rattle.laws.specs.Prelude.{List, [], ◌∷◌, ◌++◌, map, zero-mul, suc-mul, le_trans, arith, eqb, leb, length, length-append, eqb-true, leb-true}
+use Rattle.std.specs.Prelude.{◌<◌, ◌≤◌, ◌+◌, ◌^◌, ◌*◌, ◌≡◌, ◌⊎◌, ◌&&◌, ◌||◌, ◌∷◌, ◌++◌}
+use Rattle.laws.specs.Prelude.{ℕ, suc, ◌∙◌, sym, ap, refl, ap₂, inl, inr, true, false, Bool, and-eq-true_iff}
+use Rattle.laws.specs.Prelude.{List, [], map, zero-mul, suc-mul, le_trans, arith, eqb, leb, length, length-append, eqb-true, leb-true}
 use Rattle.rules.specs.Limits.{cells_fit_of, most_table_sheet, most_read}
 use Rattle.rules.specs.Lists.{range, all}
 use Rattle.rules.specs.Sheets.Printed.{line, first_lines, printed_row, printed_rows, printed_table}

@@ -1,6 +1,7 @@
 -- Table sheets: what the reader of a table sheet spells.
 -- Assumes nothing.
-use Rattle.laws.specs.Prelude.{ℕ, ◌≤◌, ◌^◌, suc, zero, ◌≡◌, sym, refl, List, [], ◌∷◌, ◌++◌, map, append_assoc, append-nil, arith, length}
+use Rattle.std.specs.Prelude.{◌≤◌, ◌^◌, ◌≡◌, ◌∷◌, ◌++◌}
+use Rattle.laws.specs.Prelude.{ℕ, suc, zero, sym, refl, List, [], map, append_assoc, append-nil, arith, length}
 use Rattle.rules.specs.Lists.{all}
 use Rattle.rules.specs.Sheets.Fields.{◌>>=◌, is_separator, field}
 use Rattle.rules.specs.Sheets.Printed.{line, first_lines, printed_row, printed_rows, printed_table}

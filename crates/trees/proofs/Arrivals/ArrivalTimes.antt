@@ -1,6 +1,7 @@
 -- The theorems of Arrivals/ArrivalTimes that rest on a definition which a must-fail edit changes: they stand here, so that the edit leaves specs/ readable.
 -- Assumes nothing.
-use Rattle.laws.specs.Prelude.{ℕ, ◌+◌, max, ◌≡◌, ◌∙◌, sym, ap₂, List}
+use Rattle.std.specs.Prelude.{◌+◌, ◌≡◌}
+use Rattle.laws.specs.Prelude.{ℕ, max, ◌∙◌, sym, ap₂, List}
 use Rattle.laws.specs.Prelude.{add_comm, get_or}
 use Rattle.rules.specs.Nets.Arrivals.{settling_time}
 use Rattle.rules.specs.Nets.Wirings.{Wiring, input, gate}

@@ -1,6 +1,7 @@
 -- The theorems of Families/FamilyBounds that rest on a definition which a must-fail edit changes: they stand here, so that the edit leaves specs/ readable.
 -- Assumes nothing.
-use Rattle.laws.specs.Prelude.{ℕ, ◌<◌, ◌≤◌, ◌+◌, ◌-◌, ◌^◌, suc, zero, ◌≡◌, refl, ◌≢◌, true}
+use Rattle.std.specs.Prelude.{◌<◌, ◌≤◌, ◌+◌, ◌-◌, ◌^◌, ◌≡◌, ◌≢◌}
+use Rattle.laws.specs.Prelude.{ℕ, suc, zero, refl, true}
 use Rattle.laws.specs.Prelude.{List, map, mul-le-mul, dec_lt, ℕ_discrete, arith, ltb, leb, length}
 use Rattle.laws.specs.Prelude.{get_or-eq_default, leb-true, ltb-true, by_cases}
 use Rattle.rules.specs.Groups.Groups.{size}

@@ -1,6 +1,7 @@
 -- The theorems of Families/FamilyNets that rest on a definition which a must-fail edit changes: they stand here, so that the edit leaves specs/ readable.
 -- Assumes nothing.
-use Rattle.laws.specs.Prelude.{ℕ, ◌<◌, ◌^◌, ◌≡◌, ◌∙◌, sym, ap, subst, subst⁻¹, ◌↔◌, List, Memᴰ}
+use Rattle.std.specs.Prelude.{◌<◌, ◌^◌, ◌≡◌, ◌↔◌}
+use Rattle.laws.specs.Prelude.{ℕ, ◌∙◌, sym, ap, subst, subst⁻¹, List, Memᴰ}
 use Rattle.rules.specs.Groups.Marks.{marks_of}
 use Rattle.rules.specs.Nets.Family.{tree_count, family_gates, gate_groups, SameWiring}
 use Rattle.rules.specs.Nets.Filling.{filled}

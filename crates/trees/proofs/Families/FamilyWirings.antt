@@ -1,6 +1,7 @@
 -- The theorems of Families/FamilyWirings that rest on a definition which a must-fail edit changes: they stand here, so that the edit leaves specs/ readable.
 -- Assumes nothing.
-use Rattle.laws.specs.Prelude.{ℕ, ◌<◌, ◌-◌, ◌^◌, suc, zero, ◌≡◌, ◌∙◌, sym, ap, refl, ap₂, ◌↔◌, ◌≢◌, ⊎_elim, zero-div, mul-pos, zero-mod, ℕ_discrete, arith}
+use Rattle.std.specs.Prelude.{◌<◌, ◌-◌, ◌^◌, ◌≡◌, ◌↔◌, ◌≢◌}
+use Rattle.laws.specs.Prelude.{ℕ, suc, zero, ◌∙◌, sym, ap, refl, ap₂, ⊎_elim, zero-div, mul-pos, zero-mod, ℕ_discrete, arith}
 use Rattle.laws.specs.Prelude.{ne_eqb}
 use Rattle.rules.specs.Groups.Groups.{size}
 use Rattle.rules.specs.Groups.Marks.{marks_of}

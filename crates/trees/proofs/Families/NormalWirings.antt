@@ -1,6 +1,7 @@
 -- The theorems of Families/NormalWirings that rest on a definition which a must-fail edit changes: they stand here, so that the edit leaves specs/ readable.
 -- Assumes nothing.
-use Rattle.laws.specs.Prelude.{ℕ, ◌<◌, ◌+◌, ◌^◌, ◌≡◌, ◌∙◌, sym, ap, refl, ap₂, subst⁻¹, ◌⊎◌, inl, inr, true, false, Bool}
+use Rattle.std.specs.Prelude.{◌<◌, ◌+◌, ◌^◌, ◌≡◌, ◌⊎◌}
+use Rattle.laws.specs.Prelude.{ℕ, ◌∙◌, sym, ap, refl, ap₂, subst⁻¹, inl, inr, true, false, Bool}
 use Rattle.laws.specs.Prelude.{add_comm, arith, eqb-true}
 use Rattle.rules.specs.Groups.Groups.{member}
 use Rattle.rules.specs.Groups.Marks.{inside}

@@ -1,6 +1,7 @@
 -- The theorems of Filling/Fillings that rest on a definition which a must-fail edit changes: they stand here, so that the edit leaves specs/ readable.
 -- Assumes nothing.
-use Rattle.laws.specs.Prelude.{ℕ, ◌<◌, ◌≡◌, true}
+use Rattle.std.specs.Prelude.{◌<◌, ◌≡◌}
+use Rattle.laws.specs.Prelude.{ℕ, true}
 use Rattle.rules.specs.Nets.Filling.{filled}
 use Rattle.rules.specs.Nets.Trees.{EachOnce, Filled, tree_value, UsesJust}
 use Rattle.rules.specs.Nets.Value.{value}

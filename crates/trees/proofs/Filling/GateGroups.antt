@@ -1,6 +1,7 @@
 -- The theorems of Filling/GateGroups that rest on a definition which a must-fail edit changes: they stand here, so that the edit leaves specs/ readable.
 -- Assumes nothing.
-use Rattle.laws.specs.Prelude.{ℕ, ◌↔◌, List}
+use Rattle.std.specs.Prelude.{◌↔◌}
+use Rattle.laws.specs.Prelude.{ℕ, List}
 use Rattle.rules.specs.Nets.Family.{SameWiring}
 use Rattle.rules.specs.Nets.Trees.{Turned}
 use Rattle.rules.specs.Nets.Wirings.{Wiring}

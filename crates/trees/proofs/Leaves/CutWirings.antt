@@ -1,7 +1,8 @@
 -- The theorems of Leaves/CutWirings that rest on a definition which a must-fail edit changes: they stand here, so that the edit leaves specs/ readable.
 -- Assumes nothing.
-use Rattle.laws.specs.Prelude.{ℕ, ◌<◌, ◌≤◌, ◌+◌, ◌^◌, ◌≡◌, ◌∙◌, sym, ap, refl, ◌↔◌, true, false, Bool, ◌&&◌, true≢false}
-use Rattle.laws.specs.Prelude.{and-eq-true_iff, ◌||◌, and-false, and-true, or-true, or-false, and-or_distrib_right, arith, eqb}
+use Rattle.std.specs.Prelude.{◌<◌, ◌≤◌, ◌+◌, ◌^◌, ◌≡◌, ◌↔◌, ◌&&◌, ◌||◌}
+use Rattle.laws.specs.Prelude.{ℕ, ◌∙◌, sym, ap, refl, true, false, Bool, true≢false}
+use Rattle.laws.specs.Prelude.{and-eq-true_iff, and-false, and-true, or-true, or-false, and-or_distrib_right, arith, eqb}
 use Rattle.laws.specs.Prelude.{eqb-true, pow_pos, test_cases}
 use Rattle.rules.specs.Groups.Groups.{member, multiplicity, whole_group}
 use Rattle.rules.specs.Groups.Marks.{marks_of}

@@ -1,6 +1,7 @@
 -- The theorems of Leaves/FewestGates that rest on a definition which a must-fail edit changes: they stand here, so that the edit leaves specs/ readable.
 -- Assumes nothing.
-use Rattle.laws.specs.Prelude.{ℕ, ◌<◌, ◌≤◌, ◌^◌, suc, ◌≡◌, ◌∙◌, sym, ap, by_cases, List, dec_lt, arith, length}
+use Rattle.std.specs.Prelude.{◌<◌, ◌≤◌, ◌^◌, ◌≡◌}
+use Rattle.laws.specs.Prelude.{ℕ, suc, ◌∙◌, sym, ap, by_cases, List, dec_lt, arith, length}
 use Rattle.rules.specs.Groups.Groups.{size, whole_group}
 use Rattle.rules.specs.Groups.Marks.{marks_of}
 use Rattle.rules.specs.Nets.Leaves.{mattering, leaves_of}

@@ -1,6 +1,7 @@
 -- The theorems of Leaves/IdleMarks that rest on a definition which a must-fail edit changes: they stand here, so that the edit leaves specs/ readable.
 -- Assumes nothing.
-use Rattle.laws.specs.Prelude.{ℕ, ◌<◌, ◌≤◌, ◌^◌, ◌≡◌, ◌∙◌, sym, ap, by_cases, cond, dec_lt, arith, eqb, eq-eqb, ne_eqb}
+use Rattle.std.specs.Prelude.{◌<◌, ◌≤◌, ◌^◌, ◌≡◌}
+use Rattle.laws.specs.Prelude.{ℕ, ◌∙◌, sym, ap, by_cases, cond, dec_lt, arith, eqb, eq-eqb, ne_eqb}
 use Rattle.rules.specs.Groups.Groups.{member, multiplicity}
 use Rattle.trees.specs.Groups.Members.{member_zero, inside_le}
 use Rattle.trees.specs.Groups.MarkRule.{Way, to_none, to_two, to_one, marked, way}

@@ -1,6 +1,7 @@
 -- The theorems of Renaming/RenamedNets that rest on a definition which a must-fail edit changes: they stand here, so that the edit leaves specs/ readable.
 -- Assumes nothing.
-use Rattle.laws.specs.Prelude.{ℕ, ◌<◌, ◌^◌, ◌≡◌, refl, subst, List}
+use Rattle.std.specs.Prelude.{◌<◌, ◌^◌, ◌≡◌}
+use Rattle.laws.specs.Prelude.{ℕ, refl, subst, List}
 use Rattle.rules.specs.Calls.Keeping.{kept_gates}
 use Rattle.rules.specs.Groups.Groups.{whole_group}
 use Rattle.rules.specs.Groups.Marks.{marks_of}

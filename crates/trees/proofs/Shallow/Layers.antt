@@ -1,6 +1,7 @@
 -- The theorems of Shallow/Layers that rest on a definition which a must-fail edit changes: they stand here, so that the edit leaves specs/ readable.
 -- Assumes nothing.
-use Rattle.laws.specs.Prelude.{ℕ, ◌<◌, ◌+◌, ◌-◌, ◌≡◌, ◌∙◌, sym, ap, true, false, List, ◌++◌, add-zero}
+use Rattle.std.specs.Prelude.{◌<◌, ◌+◌, ◌-◌, ◌≡◌, ◌++◌}
+use Rattle.laws.specs.Prelude.{ℕ, ◌∙◌, sym, ap, true, false, List, add-zero}
 use Rattle.laws.specs.Prelude.{arith, length, length-append}
 use Rattle.rules.specs.Nets.Filling.{filled}
 use Rattle.rules.specs.Nets.Trees.{Tree, node, wiring_in, EachOnce}

@@ -1,6 +1,7 @@
 -- The theorems of Shallow/Shallow that rest on a definition which a must-fail edit changes: they stand here, so that the edit leaves specs/ readable.
 -- Assumes nothing.
-use Rattle.laws.specs.Prelude.{ℕ, ◌<◌, ◌≤◌, ◌+◌, ◌-◌, ◌^◌, ◌≡◌, ◌∙◌, sym, ap, le_of_eq, arith}
+use Rattle.std.specs.Prelude.{◌<◌, ◌≤◌, ◌+◌, ◌-◌, ◌^◌, ◌≡◌}
+use Rattle.laws.specs.Prelude.{ℕ, ◌∙◌, sym, ap, le_of_eq, arith}
 use Rattle.rules.specs.Groups.Marks.{marks_of}
 use Rattle.rules.specs.Nets.Trees.{EachOnce}
 use Rattle.rules.specs.Nets.Wirings.{Wiring, input, gate, group_of}

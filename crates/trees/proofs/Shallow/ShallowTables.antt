@@ -1,6 +1,7 @@
 -- The theorems of Shallow/ShallowTables that rest on a definition which a must-fail edit changes: they stand here, so that the edit leaves specs/ readable.
 -- Assumes nothing.
-use Rattle.laws.specs.Prelude.{ℕ, ◌<◌, ◌≤◌, ◌^◌, ◌≡◌, sym, refl, subst⁻¹, List, length}
+use Rattle.std.specs.Prelude.{◌<◌, ◌≤◌, ◌^◌, ◌≡◌}
+use Rattle.laws.specs.Prelude.{ℕ, sym, refl, subst⁻¹, List, length}
 use Rattle.rules.specs.Calls.Answers.{ink_in}
 use Rattle.rules.specs.Calls.Settling.{settled_net}
 use Rattle.rules.specs.Calls.ShallowSettling.{shallow_net, net_layers}

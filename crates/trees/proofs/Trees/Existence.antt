@@ -1,6 +1,7 @@
 -- The theorems of Trees/Existence that rest on a definition which a must-fail edit changes: they stand here, so that the edit leaves specs/ readable.
 -- Assumes nothing.
-use Rattle.laws.specs.Prelude.{ℕ, ◌<◌, ◌^◌, ◌≡◌, ◌∙◌, ◌↔◌, true, List, arith}
+use Rattle.std.specs.Prelude.{◌<◌, ◌^◌, ◌≡◌, ◌↔◌}
+use Rattle.laws.specs.Prelude.{ℕ, ◌∙◌, true, List, arith}
 use Rattle.rules.specs.Groups.Groups.{size, whole_group}
 use Rattle.rules.specs.Groups.Marks.{mark_in, marks_of}
 use Rattle.rules.specs.Nets.Filling.{filled}

@@ -1,6 +1,7 @@
 -- The theorems of Trees/GateLists that rest on a definition which a must-fail edit changes: they stand here, so that the edit leaves specs/ readable.
 -- Assumes nothing.
-use Rattle.laws.specs.Prelude.{ℕ, ◌<◌, ◌+◌, ◌≡◌, ◌∙◌, ap, refl, subst, subst⁻¹, true, false, Bool, List}
+use Rattle.std.specs.Prelude.{◌<◌, ◌+◌, ◌≡◌}
+use Rattle.laws.specs.Prelude.{ℕ, ◌∙◌, ap, refl, subst, subst⁻¹, true, false, Bool, List}
 use Rattle.rules.specs.Nets.Filling.{gate_digits}
 use Rattle.rules.specs.Nets.Trees.{wiring_in, EachOnce, Filled, tree_value, UsesJust}
 use Rattle.rules.specs.Nets.Value.{value}

@@ -1,6 +1,7 @@
 -- The theorems of Trees/LinesTree that rest on a definition which a must-fail edit changes: they stand here, so that the edit leaves specs/ readable.
 -- Assumes nothing.
-use Rattle.laws.specs.Prelude.{ℕ, ◌<◌, ◌+◌, ◌-◌, ◌≡◌, ◌∙◌, true, List, ◌++◌, arith, length, length-append}
+use Rattle.std.specs.Prelude.{◌<◌, ◌+◌, ◌-◌, ◌≡◌, ◌++◌}
+use Rattle.laws.specs.Prelude.{ℕ, ◌∙◌, true, List, arith, length, length-append}
 use Rattle.rules.specs.Lists.{with_each}
 use Rattle.rules.specs.Nets.Filling.{filled}
 use Rattle.rules.specs.Nets.Trees.{Tree, leaf, node, wiring_in, EachOnce}

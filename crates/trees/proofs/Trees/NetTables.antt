@@ -1,6 +1,6 @@
 -- The theorems of Trees/NetTables that rest on a definition which a must-fail edit changes: they stand here, so that the edit leaves specs/ readable.
 -- Assumes nothing.
-use Rattle.laws.specs.Prelude.{◌≡◌}
+use Rattle.std.specs.Prelude.{◌≡◌}
 use Rattle.rules.specs.Calls.Settling.{settled_net}
 use Rattle.rules.specs.Sheets.Reading.{table_of_net}
 use Rattle.rules.specs.Sheets.SheetRules.{NetRules}

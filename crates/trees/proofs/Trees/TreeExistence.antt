@@ -1,6 +1,7 @@
 -- The theorems of Trees/TreeExistence that rest on a definition which a must-fail edit changes: they stand here, so that the edit leaves specs/ readable.
 -- Assumes nothing.
-use Rattle.laws.specs.Prelude.{ℕ, ◌≡◌, ◌∙◌, sym, ◌↔◌, List, arith}
+use Rattle.std.specs.Prelude.{◌≡◌, ◌↔◌}
+use Rattle.laws.specs.Prelude.{ℕ, ◌∙◌, sym, List, arith}
 use Rattle.rules.specs.Nets.Trees.{Tree, leaf, node, wiring_in, tree_value, TreeExists, UsesJust, GateTree, SomeTree}
 use Rattle.rules.specs.Nets.Value.{value}
 use Rattle.rules.specs.Nets.Wirings.{group_of, gates_in}

@@ -1,6 +1,7 @@
 -- The theorems of Trees/TreeLists that rest on a definition which a must-fail edit changes: they stand here, so that the edit leaves specs/ readable.
 -- Assumes nothing.
-use Rattle.laws.specs.Prelude.{ℕ, ◌+◌, ◌-◌, ◌*◌, ◌≡◌, ◌∙◌, List, ◌++◌}
+use Rattle.std.specs.Prelude.{◌+◌, ◌-◌, ◌*◌, ◌≡◌, ◌++◌}
+use Rattle.laws.specs.Prelude.{ℕ, ◌∙◌, List}
 use Rattle.laws.specs.Prelude.{arith, length, get_or}
 use Rattle.rules.specs.Lists.{with_each}
 use Rattle.rules.specs.Nets.Trees.{Tree, leaf, node, wiring_in, EachOnce, tree_value}

@@ -1,6 +1,7 @@
 -- The theorems of Trees/Uniqueness that rest on a definition which a must-fail edit changes: they stand here, so that the edit leaves specs/ readable.
 -- Assumes nothing.
-use Rattle.laws.specs.Prelude.{ℕ, ◌<◌, ◌≡◌, ◌∙◌, sym, ap, ◌↔◌, List}
+use Rattle.std.specs.Prelude.{◌<◌, ◌≡◌, ◌↔◌}
+use Rattle.laws.specs.Prelude.{ℕ, ◌∙◌, sym, ap, List}
 use Rattle.rules.specs.Calls.Answers.{ink_in}
 use Rattle.rules.specs.Groups.Groups.{whole_group}
 use Rattle.rules.specs.Groups.Marks.{marks_of}

@@ -1,7 +1,8 @@
 -- When the output of a net settles: every used input has exactly one way to it and no other input has any, and a gate settles one delay after
 -- the later of the two that it joins.
 -- Assumes nothing.
-use Rattle.laws.specs.Prelude.{ℕ, ◌<◌, ◌≤◌, ◌+◌, ◌-◌, suc, ◌*◌, max, ◌≡◌, ◌∙◌, sym, ap, refl, ap₂, ⊎_elim, true, false, Bool, List, [], ◌∷◌, ◌++◌, map}
+use Rattle.std.specs.Prelude.{◌<◌, ◌≤◌, ◌+◌, ◌-◌, ◌*◌, ◌≡◌, ◌∷◌, ◌++◌}
+use Rattle.laws.specs.Prelude.{ℕ, suc, max, ◌∙◌, sym, ap, refl, ap₂, ⊎_elim, true, false, Bool, List, [], map}
 use Rattle.laws.specs.Prelude.{Memᴰ, mem_head, mem_not_nil, mem_append_cases, map-map, mem_eq_of_singleton, mem_append_right}
 use Rattle.laws.specs.Prelude.{mem_append_left, mem_of_map, mem_map, le_antisymm, mul-suc, max-zero, arith, max_cases, eqb, length, get_or}
 use Rattle.laws.specs.Prelude.{length-append, length-map, eq-eqb, eqb-true}

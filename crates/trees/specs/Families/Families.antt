@@ -1,7 +1,8 @@
 -- The numbers below a group's count and the normal wirings of the group whose groups all have mark 2 correspond one to one: the wiring of a number,
 -- and the number of a wiring. Marks are any list here.
 -- Assumes nothing.
-use Rattle.laws.specs.Prelude.{ℕ, ◌<◌, ◌+◌, ◌-◌, ◌^◌, suc, ◌*◌, zero, ◌%◌, ◌/◌, ◌≡◌, refl, ◌≢◌, List, mod-lt, div-lt_iff_lt-mul}
+use Rattle.std.specs.Prelude.{◌<◌, ◌+◌, ◌-◌, ◌^◌, ◌*◌, ◌%◌, ◌/◌, ◌≡◌, ◌≢◌}
+use Rattle.laws.specs.Prelude.{ℕ, suc, zero, refl, List, mod-lt, div-lt_iff_lt-mul}
 use Rattle.laws.specs.Prelude.{mul-zero, arith, ne_eqb}
 use Rattle.rules.specs.Groups.Groups.{size}
 use Rattle.rules.specs.Groups.Marks.{mark_in}

@@ -1,8 +1,9 @@
 -- Every count fits into 64 bits: a group of k members has at most (2k − 3)!! trees, for k up to the most inputs that a sheet may have. For each size
 -- of A, the group has as many splits as there are ways to choose the other members of A.
 -- Assumes nothing.
-use Rattle.laws.specs.Prelude.{ℕ, ◌<◌, ◌+◌, ◌-◌, ◌^◌, suc, ◌*◌, zero, ◌%◌, ◌/◌, ◌≡◌, ◌∙◌, sym, ap, refl, ap₂, true, false, Bool, ◌&&◌, not, cond}
-use Rattle.laws.specs.Prelude.{◌||◌, and-false, and-true, List, [], ◌∷◌, map, zero-add, add-zero, arith}
+use Rattle.std.specs.Prelude.{◌<◌, ◌+◌, ◌-◌, ◌^◌, ◌*◌, ◌%◌, ◌/◌, ◌≡◌, ◌&&◌, ◌||◌, ◌∷◌}
+use Rattle.laws.specs.Prelude.{ℕ, suc, zero, ◌∙◌, sym, ap, refl, ap₂, true, false, Bool, not, cond}
+use Rattle.laws.specs.Prelude.{and-false, and-true, List, [], map, zero-add, add-zero, arith}
 use Rattle.laws.specs.Prelude.{test_cases}
 use Rattle.rules.specs.Groups.Groups.{member, size}
 use Rattle.rules.specs.Groups.Marks.{inside}

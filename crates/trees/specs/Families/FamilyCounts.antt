@@ -1,6 +1,7 @@
 -- The computed list of counts: a group's count comes from its splits, and a split's from its two groups.
 -- Assumes nothing.
-use Rattle.laws.specs.Prelude.{ℕ, ◌<◌, ◌≤◌, ◌+◌, ◌-◌, ◌^◌, suc, zero, ◌≡◌, ◌∙◌, sym, ap, refl, ◌≢◌, true, false, Bool, and-eq-true_iff, List, [], ◌++◌, map}
+use Rattle.std.specs.Prelude.{◌<◌, ◌≤◌, ◌+◌, ◌-◌, ◌^◌, ◌≡◌, ◌≢◌, ◌++◌}
+use Rattle.laws.specs.Prelude.{ℕ, suc, zero, ◌∙◌, sym, ap, refl, true, false, Bool, and-eq-true_iff, List, [], map}
 use Rattle.laws.specs.Prelude.{Memᴰ, add-one, ℕ_discrete, arith, eqb, length, length-append, get_or-append, get_or_at, ne_eqb, by_cases}
 use Rattle.rules.specs.Groups.Groups.{member, size}
 use Rattle.rules.specs.Groups.Marks.{mark_in, parts_at}

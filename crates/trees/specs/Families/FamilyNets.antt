@@ -3,7 +3,8 @@
 -- different numbers are different wirings; and each net on just the leaves that computes the table is one wiring with the net of exactly one number.
 -- The count is 0 exactly if no net computes the table, whatever its leaves.
 -- Assumes nothing.
-use Rattle.laws.specs.Prelude.{ℕ, ◌<◌, ◌≡◌, List}
+use Rattle.std.specs.Prelude.{◌<◌, ◌≡◌}
+use Rattle.laws.specs.Prelude.{ℕ, List}
 use Rattle.rules.specs.Groups.Marks.{marks_of}
 use Rattle.rules.specs.Nets.Family.{tree_count, family_gates, SameWiring}
 use Rattle.rules.specs.Nets.Leaves.{leaves_of}

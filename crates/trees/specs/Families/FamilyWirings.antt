@@ -1,7 +1,8 @@
 -- The family of a table: a group's numbers below its count, and the group's wirings with few classes at each gate, up to sides. A group has
 -- count 0 exactly if its mark is not 2, and its number 0 is the settled wiring.
 -- Assumes nothing.
-use Rattle.laws.specs.Prelude.{ℕ, ◌<◌, ◌≡◌}
+use Rattle.std.specs.Prelude.{◌<◌, ◌≡◌}
+use Rattle.laws.specs.Prelude.{ℕ}
 use Rattle.rules.specs.Groups.Marks.{marks_of}
 use Rattle.rules.specs.Nets.Wirings.{Wiring}
 use Rattle.trees.specs.Trees.Trees.{WiringOf, EachGate}

@@ -1,8 +1,9 @@
 -- A wiring is determined, up to which side is left, by its leaves and by the groups that its gates join. Its normal form has the first-listed input
 -- of every gate's group on the left.
 -- Assumes nothing.
-use Rattle.laws.specs.Prelude.{ℕ, ◌<◌, ◌+◌, ◌^◌, ◌≡◌, ◌∙◌, sym, refl, subst, ap₂, ◌↔◌, ⊎_elim, ◌⊎◌, inl, inr, true, false, Bool, ◌&&◌}
-use Rattle.laws.specs.Prelude.{true≢false, List, [], ◌∷◌, ◌++◌, Memᴰ, mem_head, mem_not_nil, mem_append_cases}
+use Rattle.std.specs.Prelude.{◌<◌, ◌+◌, ◌^◌, ◌≡◌, ◌↔◌, ◌⊎◌, ◌&&◌, ◌∷◌, ◌++◌}
+use Rattle.laws.specs.Prelude.{ℕ, ◌∙◌, sym, refl, subst, ap₂, ⊎_elim, inl, inr, true, false, Bool}
+use Rattle.laws.specs.Prelude.{true≢false, List, [], Memᴰ, mem_head, mem_not_nil, mem_append_cases}
 use Rattle.laws.specs.Prelude.{mem_eq_of_singleton, mem_append_right, mem_append_left, add_comm, arith}
 use Rattle.rules.specs.Groups.Groups.{member}
 use Rattle.rules.specs.Groups.Marks.{inside}

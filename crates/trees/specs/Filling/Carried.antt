@@ -1,7 +1,8 @@
 -- What the wire of a group carries: its only input's level, or its class. It is below m if the group has at most m classes,
 -- depends only on the levels of the group's members, and determines the ink.
 -- Assumes nothing.
-use Rattle.laws.specs.Prelude.{ℕ, ◌<◌, ◌^◌, ◌≡◌, ◌∙◌, sym, ap, refl, subst, subst⁻¹, ◌≢◌, lt_of_lt_of_le, eqb, eq-eqb, eqb-true, ne_eqb, eqb-false, pow_pos}
+use Rattle.std.specs.Prelude.{◌<◌, ◌^◌, ◌≡◌, ◌≢◌}
+use Rattle.laws.specs.Prelude.{ℕ, ◌∙◌, sym, ap, refl, subst, subst⁻¹, lt_of_lt_of_le, eqb, eq-eqb, eqb-true, ne_eqb, eqb-false, pow_pos}
 use Rattle.laws.specs.Prelude.{test_cases}
 use Rattle.rules.specs.Groups.Groups.{size, part}
 use Rattle.rules.specs.Nets.Filling.{class_number, carried}

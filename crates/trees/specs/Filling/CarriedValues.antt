@@ -1,7 +1,8 @@
 -- In a wiring filled by the class rule, the value of every reference before the last gate is what its wire carries: an input's level, or the class of
 -- a gate's group.
 -- Assumes nothing.
-use Rattle.laws.specs.Prelude.{ℕ, ◌<◌, ◌+◌, ◌≡◌, ◌∙◌, sym, ap, false, Bool, List, [], ◌∷◌, ◌++◌, zero-add, dec_lt, arith, eqb-suc-zero, length, get_or}
+use Rattle.std.specs.Prelude.{◌<◌, ◌+◌, ◌≡◌, ◌∷◌, ◌++◌}
+use Rattle.laws.specs.Prelude.{ℕ, ◌∙◌, sym, ap, false, Bool, List, [], zero-add, dec_lt, arith, eqb-suc-zero, length, get_or}
 use Rattle.laws.specs.Prelude.{get_or-append, get_or-append_seam}
 use Rattle.rules.specs.Nets.Filling.{carried, given, gate_digits, input_groups, filled_from}
 use Rattle.rules.specs.Nets.Value.{gate_value}

@@ -1,7 +1,8 @@
 -- The rule for a gate's digits, of document 01, section 'The settled net': "A gate below the last gives its group's classes .. The last
 -- gate gives the ink. A digit that no assignment reaches is 0." For any two groups that a gate may join.
 -- Assumes nothing.
-use Rattle.laws.specs.Prelude.{ℕ, ◌<◌, ◌+◌, ◌^◌, ◌*◌, ◌%◌, ◌/◌, ◌≡◌, ◌∙◌, sym, ap, refl, subst, ap₂, ◌≢◌, true, false, Bool, List, mod-lt, lt_of_lt_of_le}
+use Rattle.std.specs.Prelude.{◌<◌, ◌+◌, ◌^◌, ◌*◌, ◌%◌, ◌/◌, ◌≡◌, ◌≢◌}
+use Rattle.laws.specs.Prelude.{ℕ, ◌∙◌, sym, ap, refl, subst, ap₂, true, false, Bool, List, mod-lt, lt_of_lt_of_le}
 use Rattle.laws.specs.Prelude.{div-lt_iff_lt-mul, div-add-mod', arith, length, get_or, ext_get_or}
 use Rattle.rules.specs.Groups.Groups.{part, points, size}
 use Rattle.rules.specs.Nets.Filling.{carried, given, gate_digits}

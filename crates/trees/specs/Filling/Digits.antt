@@ -1,6 +1,7 @@
 -- The digits of a gate by the class rule, over any two groups: how many, and what each is.
 -- Assumes nothing.
-use Rattle.laws.specs.Prelude.{ℕ, ◌<◌, ◌+◌, ◌*◌, ◌%◌, ◌/◌, ◌≡◌, ◌∙◌, sym, ap, subst, inl, inr, false, Bool, ◌&&◌, false≢true, List, [], ◌∷◌, map, Memᴰ}
+use Rattle.std.specs.Prelude.{◌<◌, ◌+◌, ◌*◌, ◌%◌, ◌/◌, ◌≡◌, ◌&&◌, ◌∷◌}
+use Rattle.laws.specs.Prelude.{ℕ, ◌∙◌, sym, ap, subst, inl, inr, false, Bool, false≢true, List, [], map, Memᴰ}
 use Rattle.laws.specs.Prelude.{mem_not_nil, mem_cases_cons, mod-lt, div-lt_iff_lt-mul, div-add-mod', eqb, length, get_or, test_cases}
 use Rattle.rules.specs.Groups.Groups.{points}
 use Rattle.rules.specs.Lists.{find}

@@ -1,7 +1,8 @@
 -- The links of a wiring, filled by the class rule: the group of each reference is that of the wiring it refers to, so the filling is
 -- the wiring's gate list, which follows the rules of a net sheet and has the tree's value. Also, what a list of links needs in order to be filled.
 -- Assumes nothing.
-use Rattle.laws.specs.Prelude.{ℕ, ◌<◌, ◌+◌, ◌^◌, ◌≡◌, ◌∙◌, sym, ap, refl, ap₂, true, false, Bool, List, [], ◌∷◌, ◌++◌, append_assoc, append-nil, zero-add}
+use Rattle.std.specs.Prelude.{◌<◌, ◌+◌, ◌^◌, ◌≡◌, ◌∷◌, ◌++◌}
+use Rattle.laws.specs.Prelude.{ℕ, ◌∙◌, sym, ap, refl, ap₂, true, false, Bool, List, [], append_assoc, append-nil, zero-add}
 use Rattle.laws.specs.Prelude.{add-zero, arith, eqb, length, get_or, length-append, get_or-append_seam, ne_eqb}
 use Rattle.rules.specs.Lists.{with_each}
 use Rattle.rules.specs.Nets.Filling.{gate_digits, input_groups, filled_from, filled}

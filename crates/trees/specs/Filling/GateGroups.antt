@@ -1,7 +1,8 @@
 -- The groups of a net's gates are the groups that the gates of its tree join, and the groups of a wiring's filled links are the wiring's. So two nets
 -- are one wiring exactly if their trees differ only in which side is left.
 -- Assumes nothing.
-use Rattle.laws.specs.Prelude.{ℕ, ◌<◌, ◌≤◌, ◌+◌, ◌-◌, ◌≡◌, ◌∙◌, sym, ap, refl, subst, ap₂, ◌↔◌, ⊎_elim, true≢false, List, [], ◌∷◌, ◌++◌, Memᴰ}
+use Rattle.std.specs.Prelude.{◌<◌, ◌≤◌, ◌+◌, ◌-◌, ◌≡◌, ◌↔◌, ◌∷◌, ◌++◌}
+use Rattle.laws.specs.Prelude.{ℕ, ◌∙◌, sym, ap, refl, subst, ap₂, ⊎_elim, true≢false, List, [], Memᴰ}
 use Rattle.laws.specs.Prelude.{append_assoc, append-nil, mem_head, mem_not_nil, mem_append_cases, mem_eq_of_singleton}
 use Rattle.laws.specs.Prelude.{mem_append_right, mem_append_left, dec_lt, ℕ_discrete, arith, eqb, length, get_or-append, get_or-append_seam, eq-eqb}
 use Rattle.rules.specs.Calls.Keeping.{link_of}

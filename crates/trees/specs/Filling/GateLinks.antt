@@ -1,7 +1,8 @@
 -- The links of any gate list that follows the rules of a net sheet, in its own line order and with its own sides, can be filled if each
 -- gate's group has at most m classes.
 -- Assumes nothing.
-use Rattle.laws.specs.Prelude.{ℕ, ◌<◌, ◌+◌, ◌-◌, suc, ◌≡◌, ◌∙◌, sym, ap, subst, ap₂, subst⁻¹, List, [], ◌∷◌, ◌++◌, map, append_assoc, map-map, dec_lt, arith}
+use Rattle.std.specs.Prelude.{◌<◌, ◌+◌, ◌-◌, ◌≡◌, ◌∷◌, ◌++◌}
+use Rattle.laws.specs.Prelude.{ℕ, suc, ◌∙◌, sym, ap, subst, ap₂, subst⁻¹, List, [], map, append_assoc, map-map, dec_lt, arith}
 use Rattle.laws.specs.Prelude.{length, get_or, length-map, get_or-append, get_or-append_seam}
 use Rattle.rules.specs.Calls.Keeping.{link_of, gate_links}
 use Rattle.rules.specs.Lists.{range, with_each}

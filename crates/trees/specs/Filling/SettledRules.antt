@@ -2,7 +2,8 @@
 -- (A, B), both of mark 2, A holding its first-listed input, A of lowest number."; classes are "numbered from 0 in the order in which
 -- they first appear as the group's assignments are counted, first-listed member slowest".
 -- Assumes nothing.
-use Rattle.laws.specs.Prelude.{ℕ, ◌<◌, ◌≤◌, ◌-◌, ◌^◌, ◌≡◌, ◌∙◌, sym, ap, ◌≢◌, ⊎_elim, true, true≢false, and-eq-true_iff, Memᴰ, le_of_eq, le_of_lt, dec_lt}
+use Rattle.std.specs.Prelude.{◌<◌, ◌≤◌, ◌-◌, ◌^◌, ◌≡◌, ◌≢◌}
+use Rattle.laws.specs.Prelude.{ℕ, ◌∙◌, sym, ap, ⊎_elim, true, true≢false, and-eq-true_iff, Memᴰ, le_of_eq, le_of_lt, dec_lt}
 use Rattle.laws.specs.Prelude.{arith, length, get_or}
 use Rattle.rules.specs.Groups.Groups.{size, points, alike, classes, multiplicity}
 use Rattle.rules.specs.Groups.Marks.{marks_of}

@@ -1,6 +1,7 @@
 -- Alike, as a statement and as the test that document 01's definition computes. It is an equivalence relation.
 -- Assumes nothing.
-use Rattle.laws.specs.Prelude.{ℕ, ◌<◌, ◌+◌, ◌^◌, ◌≡◌, ◌∙◌, sym, ap, refl, ◌∎, ◌≡⟨◌⟩◌, true, eq-eqb, eqb-true}
+use Rattle.std.specs.Prelude.{◌<◌, ◌+◌, ◌^◌, ◌≡◌}
+use Rattle.laws.specs.Prelude.{ℕ, ◌∙◌, sym, ap, refl, ◌∎, ◌≡⟨◌⟩◌, true, eq-eqb, eqb-true}
 use Rattle.rules.specs.Groups.Groups.{part, points, others, alike, alike_over}
 use Rattle.rules.specs.Nets.Trees.{Apart}
 use Rattle.laws.specs.Lists.Tests.{all_mem, mem_all}

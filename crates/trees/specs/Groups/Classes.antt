@@ -1,6 +1,7 @@
 -- A group's classes: their numbers, their count, and the two ways to bound it.
 -- Assumes nothing.
-use Rattle.laws.specs.Prelude.{ℕ, ◌<◌, ◌≤◌, ◌+◌, ◌^◌, ◌≡◌, ◌∙◌, sym, refl, ⊎_elim, true, true≢false, [], Memᴰ, mem_not_nil, not-suc-le-zero}
+use Rattle.std.specs.Prelude.{◌<◌, ◌≤◌, ◌+◌, ◌^◌, ◌≡◌}
+use Rattle.laws.specs.Prelude.{ℕ, ◌∙◌, sym, refl, ⊎_elim, true, true≢false, [], Memᴰ, mem_not_nil, not-suc-le-zero}
 use Rattle.laws.specs.Prelude.{lt_trans, dec_lt, arith, get_or, eq-eqb, by_cases}
 use Rattle.rules.specs.Groups.Groups.{part, points, others, alike, alike_over, classes, multiplicity}
 use Rattle.rules.specs.Nets.Filling.{class_number}

@@ -1,7 +1,8 @@
 -- Assignments of a group such that all its assignments are alike to one of them. Any such list bounds its number of classes, and such a list
 -- for the other inputs decides which of its assignments are alike.
 -- Assumes nothing.
-use Rattle.laws.specs.Prelude.{ℕ, ◌<◌, ◌≤◌, ◌+◌, ◌-◌, ◌^◌, suc, ◌*◌, zero, ◌%◌, ◌/◌, ◌≡◌, ◌∙◌, sym, ap, refl, subst, ap₂, subst⁻¹, true, false, Bool, ◌&&◌}
+use Rattle.std.specs.Prelude.{◌<◌, ◌≤◌, ◌+◌, ◌-◌, ◌^◌, ◌*◌, ◌%◌, ◌/◌, ◌≡◌, ◌&&◌}
+use Rattle.laws.specs.Prelude.{ℕ, suc, zero, ◌∙◌, sym, ap, refl, subst, ap₂, subst⁻¹, true, false, Bool}
 use Rattle.laws.specs.Prelude.{true≢false, cond, zero-add, add-zero, zero-mul, pow-suc, pow-zero, mod-lt, div-lt_iff_lt-mul, mul_comm, mul-one, one-le-pow}
 use Rattle.laws.specs.Prelude.{le_refl, mul_assoc, add_comm, le_step, mod-eq_of_lt, mul-div_cancel, sub_self, dec_lt, arith, eq-eqb, ne_eqb, digits_lt}
 use Rattle.laws.specs.Prelude.{digits_mod, digits_div, sub-sub_self}

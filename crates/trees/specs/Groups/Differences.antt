@@ -1,7 +1,8 @@
 -- Two assignments of a group compared (document 02, K4): the result is `none` exactly if they are alike, and a place exactly if it is the least
 -- at which the inks differ.
 -- Assumes nothing.
-use Rattle.laws.specs.Prelude.{ℕ, ◌<◌, ◌≤◌, ◌+◌, ◌-◌, ◌^◌, ◌≡◌, ◌∙◌, sym, ap, refl, subst, ◌↔◌, ◌≢◌, true, false, not, List, ℕ_discrete, arith, length, get_or}
+use Rattle.std.specs.Prelude.{◌<◌, ◌≤◌, ◌+◌, ◌-◌, ◌^◌, ◌≡◌, ◌↔◌, ◌≢◌}
+use Rattle.laws.specs.Prelude.{ℕ, ◌∙◌, sym, ap, refl, subst, true, false, not, List, ℕ_discrete, arith, length, get_or}
 use Rattle.laws.specs.Prelude.{eq-eqb, eqb-true, ne_eqb, eqb-false, not-true, by_cases, test_cases}
 use Rattle.rules.specs.Groups.Groups.{size, part, points, others, alike, alike_over}
 use Rattle.std.proofs.Math.Option.{Option, none, some, some-injective, none-ne-some}

@@ -1,6 +1,7 @@
 -- "the whole group has as many classes as distinct inks"
 -- Assumes nothing.
-use Rattle.laws.specs.Prelude.{ℕ, ◌<◌, ◌^◌, ◌≡◌, ◌∙◌, sym, ap, ap₂, fun_ext, Bool, and-true, List, [], ◌∷◌, map, add-zero, sub_self, eqb, length, length-map}
+use Rattle.std.specs.Prelude.{◌<◌, ◌^◌, ◌≡◌, ◌∷◌}
+use Rattle.laws.specs.Prelude.{ℕ, ◌∙◌, sym, ap, ap₂, fun_ext, Bool, and-true, List, [], map, add-zero, sub_self, eqb, length, length-map}
 use Rattle.rules.specs.Groups.Groups.{whole_group, others, points, alike_over, firsts, classes, multiplicity}
 use Rattle.rules.specs.Lists.{range, all}
 use Rattle.laws.specs.Lists.Tests.{all_cons}

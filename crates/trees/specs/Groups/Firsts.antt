@@ -1,7 +1,8 @@
 -- What `firsts` keeps of a list, for a test that every element passes against itself: elements of the list; none passes
 -- against an earlier one; and each element passes against one that is kept.
 -- Assumes nothing.
-use Rattle.laws.specs.Prelude.{ℕ, ◌<◌, ◌≡◌, sym, refl, ◌⊎◌, inl, inr, ⊎_map, true, false, Bool, List, [], ◌∷◌, ◌++◌, map, Memᴰ, mem_head}
+use Rattle.std.specs.Prelude.{◌<◌, ◌≡◌, ◌⊎◌, ◌∷◌, ◌++◌}
+use Rattle.laws.specs.Prelude.{ℕ, sym, refl, inl, inr, ⊎_map, true, false, Bool, List, [], map, Memᴰ, mem_head}
 use Rattle.laws.specs.Prelude.{mem_not_nil, mem_tail, mem_append_cases, mem_cases_cons, mem_eq_of_singleton, mem_append_right}
 use Rattle.laws.specs.Prelude.{mem_append_left, map-append, le_of_suc-le-suc, eq-or-lt_of_le, arith, length, get_or, length-append, get_or-append, get_or_at}
 use Rattle.rules.specs.Groups.Groups.{firsts}

@@ -1,6 +1,7 @@
 -- "A group is a set of inputs, numbered by the sum of 2 to the power i over its members, where i is the place in line 3 from 0."
 -- Assumes nothing.
-use Rattle.laws.specs.Prelude.{ℕ, ◌<◌, ◌+◌, ◌^◌, suc, ◌*◌, zero, ◌/◌, ◌≡◌, refl, true, false, Bool, cond, List, [], ◌∷◌, map, arith}
+use Rattle.std.specs.Prelude.{◌<◌, ◌+◌, ◌^◌, ◌*◌, ◌/◌, ◌≡◌, ◌∷◌}
+use Rattle.laws.specs.Prelude.{ℕ, suc, zero, refl, true, false, Bool, cond, List, [], map, arith}
 use Rattle.rules.specs.Groups.Groups.{member}
 use Rattle.rules.specs.Lists.{range, those, total}
 use Rattle.laws.specs.Lists.Ranges.{range_shift}

@@ -1,7 +1,8 @@
 -- Two groups that share no input, and their join: the levels of the join determine the levels of each, and a value that determines the ink
 -- over the join determines it over each.
 -- Assumes nothing.
-use Rattle.laws.specs.Prelude.{ℕ, ◌<◌, ◌+◌, ◌^◌, ◌≡◌, ◌∙◌, sym, ap, true, false, and-true, and_comm, add_comm, test_cases}
+use Rattle.std.specs.Prelude.{◌<◌, ◌+◌, ◌^◌, ◌≡◌}
+use Rattle.laws.specs.Prelude.{ℕ, ◌∙◌, sym, ap, true, false, and-true, and_comm, add_comm, test_cases}
 use Rattle.rules.specs.Groups.Groups.{member, part}
 use Rattle.rules.specs.Nets.Trees.{Apart}
 use Rattle.rules.specs.Sheets.Sheets.{level}

@@ -1,7 +1,8 @@
 -- Indices by their levels: an index below m to the n is determined by its n levels, and `mix` takes each level from one of two indices.
 -- Assumes nothing.
-use Rattle.laws.specs.Prelude.{ℕ, ◌<◌, ◌+◌, ◌^◌, suc, ◌*◌, zero, ◌%◌, ◌/◌, ◌≡◌, ◌∙◌, sym, ap, refl, ◌⊎◌, inl, inr, true, false, Bool, ◌&&◌, not, test_cases}
-use Rattle.laws.specs.Prelude.{true≢false, cond, ◌||◌, zero-add, add-zero, zero-mul, pow-suc, pow-zero, mod-lt, div-lt_iff_lt-mul, div-add-mod', one-le-pow}
+use Rattle.std.specs.Prelude.{◌<◌, ◌+◌, ◌^◌, ◌*◌, ◌%◌, ◌/◌, ◌≡◌, ◌⊎◌, ◌&&◌, ◌||◌}
+use Rattle.laws.specs.Prelude.{ℕ, suc, zero, ◌∙◌, sym, ap, refl, inl, inr, true, false, Bool, not, test_cases}
+use Rattle.laws.specs.Prelude.{true≢false, cond, zero-add, add-zero, zero-mul, pow-suc, pow-zero, mod-lt, div-lt_iff_lt-mul, div-add-mod', one-le-pow}
 use Rattle.laws.specs.Prelude.{le_refl, le_of_suc-le-suc, not-suc-le-zero, le_step, zero-div, eq-or-lt_of_le, zero-mod, arith, digits_lt, digits_mod}
 use Rattle.laws.specs.Prelude.{digits_div, lt-one}
 use Rattle.rules.specs.Groups.Groups.{member, part, others, whole_group}

@@ -1,7 +1,8 @@
 -- The computed list of marks follows document 01's three-way rule at every group.
 -- Assumes nothing.
-use Rattle.laws.specs.Prelude.{ℕ, ◌<◌, ◌≤◌, ◌+◌, ◌-◌, ◌^◌, suc, zero, ◌≡◌, ◌∙◌, sym, ap, refl, ◌≢◌, ⊎_elim, ◌⊎◌, inl, inr, true, false, Bool, not, true≢false}
-use Rattle.laws.specs.Prelude.{and-eq-true_iff, ◌||◌, List, [], Memᴰ, add-one, ℕ_discrete, arith, eqb, leb, length, length-append, get_or-append}
+use Rattle.std.specs.Prelude.{◌<◌, ◌≤◌, ◌+◌, ◌-◌, ◌^◌, ◌≡◌, ◌≢◌, ◌⊎◌, ◌||◌}
+use Rattle.laws.specs.Prelude.{ℕ, suc, zero, ◌∙◌, sym, ap, refl, ⊎_elim, inl, inr, true, false, Bool, not, true≢false}
+use Rattle.laws.specs.Prelude.{and-eq-true_iff, List, [], Memᴰ, add-one, ℕ_discrete, arith, eqb, leb, length, length-append, get_or-append}
 use Rattle.laws.specs.Prelude.{get_or_at, eqb-true, eqb-false, leb-true, leb-false, by_cases}
 use Rattle.rules.specs.Groups.Groups.{member, size, multiplicity}
 use Rattle.rules.specs.Groups.Marks.{inside, mark_in, parts_at, mark_of, marks_below, marks_of}

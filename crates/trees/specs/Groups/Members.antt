@@ -1,6 +1,7 @@
 -- Groups as sets: a group's number, its members and its size.
 -- Assumes nothing.
-use Rattle.laws.specs.Prelude.{ℕ, ◌<◌, ◌≤◌, ◌+◌, ◌-◌, ◌^◌, suc, zero, ◌%◌, ◌/◌, ◌≡◌, ◌∙◌, sym, ap, refl, ap₂, true, false, Bool, ◌&&◌, not, ◌||◌, false≢true}
+use Rattle.std.specs.Prelude.{◌<◌, ◌≤◌, ◌+◌, ◌-◌, ◌^◌, ◌%◌, ◌/◌, ◌≡◌, ◌&&◌, ◌||◌}
+use Rattle.laws.specs.Prelude.{ℕ, suc, zero, ◌∙◌, sym, ap, refl, ap₂, true, false, Bool, not, false≢true}
 use Rattle.laws.specs.Prelude.{and-false, pow-succ', zero-div, div-div-eq-div-mul, div-one, arith, eqb, eqb-suc-zero, eqb-suc-suc, eqb-zero-suc, pow_pos}
 use Rattle.laws.specs.Prelude.{pow-lt, test_cases}
 use Rattle.rules.specs.Groups.Groups.{member, size, whole_group, others}

@@ -1,7 +1,8 @@
 -- The list of a group's assignments.
 -- Assumes nothing.
-use Rattle.laws.specs.Prelude.{ℕ, ◌<◌, ◌+◌, ◌-◌, ◌^◌, suc, ◌*◌, zero, ◌%◌, ◌/◌, ◌≡◌, ◌∙◌, sym, ap, refl, fun_ext, ◌⊎◌, inl, inr, true, false, Bool, cond}
-use Rattle.laws.specs.Prelude.{List, [], ◌∷◌, ◌++◌, map, Memᴰ, mem_head, mem_not_nil, mem_tail, mem_append_cases}
+use Rattle.std.specs.Prelude.{◌<◌, ◌+◌, ◌-◌, ◌^◌, ◌*◌, ◌%◌, ◌/◌, ◌≡◌, ◌⊎◌, ◌∷◌, ◌++◌}
+use Rattle.laws.specs.Prelude.{ℕ, suc, zero, ◌∙◌, sym, ap, refl, fun_ext, inl, inr, true, false, Bool, cond}
+use Rattle.laws.specs.Prelude.{List, [], map, Memᴰ, mem_head, mem_not_nil, mem_tail, mem_append_cases}
 use Rattle.laws.specs.Prelude.{mem_eq_of_singleton, zero-add, add-zero, zero-mul, pow-suc, suc-mul, pow-zero, mod-lt, lt_of_lt_of_le, div-lt_iff_lt-mul}
 use Rattle.laws.specs.Prelude.{div-add-mod', le_refl, one-mul, add_comm, le_of_suc-le-suc, not-suc-le-zero, le_step, add-lt-add_of_le_of_lt, div-mul-le_self}
 use Rattle.laws.specs.Prelude.{le-add_right, arith, length, get_or, digits_mod, digits_div, pow-add}

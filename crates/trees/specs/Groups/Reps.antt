@@ -1,7 +1,8 @@
 -- Representatives: assignments that cover a group, no two of them alike. There are as many as classes. Given rows that cover the group and columns
 -- that cover the other inputs, the first row of each class is such a list.
 -- Assumes nothing.
-use Rattle.laws.specs.Prelude.{ℕ, ◌<◌, ◌+◌, ◌^◌, ◌≡◌, ◌∙◌, sym, refl, ◌⊎◌, inl, inr, true, true≢false, List, [], Memᴰ, mem_not_nil}
+use Rattle.std.specs.Prelude.{◌<◌, ◌+◌, ◌^◌, ◌≡◌, ◌⊎◌}
+use Rattle.laws.specs.Prelude.{ℕ, ◌∙◌, sym, refl, inl, inr, true, true≢false, List, [], Memᴰ, mem_not_nil}
 use Rattle.laws.specs.Prelude.{not-suc-le-zero, le_antisymm, arith, eqb, length, get_or, eq-eqb, eqb-true}
 use Rattle.rules.specs.Groups.Groups.{part, others, alike, alike_over, firsts, multiplicity}
 use Rattle.rules.specs.Nets.Filling.{class_number}

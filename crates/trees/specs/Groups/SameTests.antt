@@ -1,6 +1,7 @@
 -- Two tests that agree on a list give the same results on it: whether all pass, where the first passes, and the first of each class.
 -- Assumes nothing.
-use Rattle.laws.specs.Prelude.{suc, ◌≡◌, ap, refl, subst⁻¹, ⊎_elim, true, false, Bool, List, [], ◌∷◌, ◌++◌, Memᴰ, mem_head, mem_tail}
+use Rattle.std.specs.Prelude.{◌≡◌, ◌∷◌, ◌++◌}
+use Rattle.laws.specs.Prelude.{suc, ap, refl, subst⁻¹, ⊎_elim, true, false, Bool, List, [], Memᴰ, mem_head, mem_tail}
 use Rattle.laws.specs.Prelude.{mem_append_cases, mem_eq_of_singleton}
 use Rattle.rules.specs.Groups.Groups.{firsts}
 use Rattle.rules.specs.Lists.{all, any, first_place}

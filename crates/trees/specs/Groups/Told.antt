@@ -1,7 +1,8 @@
 -- Rows of a group that differ pairwise at columns which have the same levels at some inputs: the group has at least that many classes, and so does
 -- the group with any of these inputs added. So a larger group is known to have too many classes without reading the cells.
 -- Assumes nothing.
-use Rattle.laws.specs.Prelude.{ℕ, ◌<◌, ◌≤◌, ◌+◌, ◌^◌, ◌≡◌, ◌∙◌, sym, ap, refl, ◌≢◌, true, false, Bool, true≢false, cond, ◌||◌}
+use Rattle.std.specs.Prelude.{◌<◌, ◌≤◌, ◌+◌, ◌^◌, ◌≡◌, ◌≢◌, ◌||◌}
+use Rattle.laws.specs.Prelude.{ℕ, ◌∙◌, sym, ap, refl, true, false, Bool, true≢false, cond}
 use Rattle.rules.specs.Groups.Groups.{member, multiplicity}
 use Rattle.rules.specs.Nets.Filling.{class_number}
 use Rattle.rules.specs.Nets.Trees.{Apart}

@@ -1,7 +1,8 @@
 -- "the set of the gates whose table field differs from the old one, as the sum of 2 to the power of each one's number" (document 02, K10): bit k of
 -- the sum is gate k's and no other bit is set, so the sum determines exactly these gates.
 -- Assumes nothing.
-use Rattle.laws.specs.Prelude.{ℕ, ◌<◌, ◌≤◌, ◌+◌, ◌^◌, suc, ◌*◌, zero, ◌/◌, ◌≡◌, ◌∙◌, sym, ap, refl, subst, ◌↔◌, ◌≢◌, true, false, Bool, not, true≢false, cond}
+use Rattle.std.specs.Prelude.{◌<◌, ◌≤◌, ◌+◌, ◌^◌, ◌*◌, ◌/◌, ◌≡◌, ◌↔◌, ◌≢◌}
+use Rattle.laws.specs.Prelude.{ℕ, suc, zero, ◌∙◌, sym, ap, refl, subst, true, false, Bool, not, true≢false, cond}
 use Rattle.laws.specs.Prelude.{List, zero-add, lt_of_lt_of_le, div-eq_of_lt, dec_lt, arith, length, not-true, pow_mono, pow_pos, by_cases}
 use Rattle.rules.specs.Calls.Keeping.{table_at, table_differs, changed_gates}
 use Rattle.rules.specs.Groups.Groups.{member}

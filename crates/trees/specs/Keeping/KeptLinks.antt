@@ -1,6 +1,7 @@
 -- What depends only on a net's wiring: its references, its gates' groups, and so whether gates with other tables are a net. Filling keeps the wiring.
 -- Assumes nothing.
-use Rattle.laws.specs.Prelude.{ℕ, ◌<◌, ◌+◌, suc, ◌≡◌, ◌∙◌, sym, ap, refl, subst⁻¹, List, [], ◌∷◌, ◌++◌, append_assoc, append-nil, arith, eqb, length, get_or}
+use Rattle.std.specs.Prelude.{◌<◌, ◌+◌, ◌≡◌, ◌∷◌, ◌++◌}
+use Rattle.laws.specs.Prelude.{ℕ, suc, ◌∙◌, sym, ap, refl, subst⁻¹, List, [], append_assoc, append-nil, arith, eqb, length, get_or}
 use Rattle.laws.specs.Prelude.{length-map, get_or-append-add}
 use Rattle.rules.specs.Calls.Keeping.{link_of, gate_links, kept_gates}
 use Rattle.rules.specs.Lists.{any, with_each}

@@ -2,8 +2,9 @@
 -- and its sides, some digits at its gates compute the table exactly if every input that matters is used (document 02, K12) and each gate's group has
 -- at most m classes; in that case the class rule's digits do.
 -- Assumes nothing.
-use Rattle.laws.specs.Prelude.{ℕ, ◌<◌, ◌≤◌, ◌+◌, ◌-◌, ◌^◌, suc, ◌≡◌, ◌∙◌, sym, ap, refl, subst⁻¹, ◌↔◌, ⊎_elim, ◌⊎◌, inl, inr, true, false, Bool, ◌&&◌, not}
-use Rattle.laws.specs.Prelude.{true≢false, and-eq-true_iff, List, [], ◌∷◌, ◌++◌, Memᴰ, lt_of_not-le, dec_lt, dec_le, arith, eqb, ltb, length, get_or}
+use Rattle.std.specs.Prelude.{◌<◌, ◌≤◌, ◌+◌, ◌-◌, ◌^◌, ◌≡◌, ◌↔◌, ◌⊎◌, ◌&&◌, ◌∷◌, ◌++◌}
+use Rattle.laws.specs.Prelude.{ℕ, suc, ◌∙◌, sym, ap, refl, subst⁻¹, ⊎_elim, inl, inr, true, false, Bool, not}
+use Rattle.laws.specs.Prelude.{true≢false, and-eq-true_iff, List, [], Memᴰ, lt_of_not-le, dec_lt, dec_le, arith, eqb, ltb, length, get_or}
 use Rattle.laws.specs.Prelude.{length-map, get_or-append_seam, ltb-true, ltb-false}
 use Rattle.rules.specs.Calls.Answers.{ink_in}
 use Rattle.rules.specs.Calls.Keeping.{link_of, gate_links, kept_gates, roomy_gates, leaves_out}

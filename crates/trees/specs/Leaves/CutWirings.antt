@@ -1,8 +1,9 @@
 -- Inputs that do not matter may be cut out of a wiring, or attached to one: they do not change the number of a group's classes. So a group has
 -- mark 2 with them exactly if it has mark 2 without them, and the leaves (document 02, K12) have mark 2 exactly if all inputs together do.
 -- Assumes nothing.
-use Rattle.laws.specs.Prelude.{ℕ, ◌<◌, ◌≤◌, ◌+◌, ◌-◌, ◌^◌, suc, zero, ◌≡◌, ◌∙◌, sym, ap, refl, by_cases, true, false, Bool, not, true≢false}
-use Rattle.laws.specs.Prelude.{and-eq-true_iff, ◌||◌, and-false, le_antisymm, ℕ_discrete, arith, eqb}
+use Rattle.std.specs.Prelude.{◌<◌, ◌≤◌, ◌+◌, ◌-◌, ◌^◌, ◌≡◌, ◌||◌}
+use Rattle.laws.specs.Prelude.{ℕ, suc, zero, ◌∙◌, sym, ap, refl, by_cases, true, false, Bool, not, true≢false}
+use Rattle.laws.specs.Prelude.{and-eq-true_iff, and-false, le_antisymm, ℕ_discrete, arith, eqb}
 use Rattle.laws.specs.Prelude.{eqb-true, pow_pos, test_cases}
 use Rattle.rules.specs.Groups.Groups.{member, multiplicity}
 use Rattle.rules.specs.Groups.Marks.{inside}

@@ -1,7 +1,8 @@
 -- Document 02, K12: "Panel makers now charge extra for a gate that ignores an input." The settled net has one gate fewer than leaves; every leaf
 -- matters if two or more inputs do; and no net that computes the table, whatever its leaves, its wiring and its digits, has fewer gates.
 -- Assumes nothing.
-use Rattle.laws.specs.Prelude.{ℕ, ◌<◌, ◌∙◌, sym, length}
+use Rattle.std.specs.Prelude.{◌<◌}
+use Rattle.laws.specs.Prelude.{ℕ, ◌∙◌, sym, length}
 use Rattle.rules.specs.Nets.Leaves.{mattering, leaves_of}
 use Rattle.trees.specs.Groups.Members.{member_inside}
 use Rattle.trees.specs.Leaves.Mattering.{Holding}

@@ -1,7 +1,8 @@
 -- Idle inputs (document 02, K12) and marks: a group has the mark of the group of its members that matter, and mark 2 if none of them does. So only
 -- groups of inputs that matter need to be marked by document 01's rule.
 -- Assumes nothing.
-use Rattle.laws.specs.Prelude.{ℕ, ◌<◌, ◌≤◌, ◌^◌, ◌≡◌, ◌∙◌, sym, ap, refl, true, false, Bool, true≢false, cond, arith}
+use Rattle.std.specs.Prelude.{◌<◌, ◌≤◌, ◌^◌, ◌≡◌}
+use Rattle.laws.specs.Prelude.{ℕ, ◌∙◌, sym, ap, refl, true, false, Bool, true≢false, cond, arith}
 use Rattle.rules.specs.Groups.Groups.{member, part, multiplicity}
 use Rattle.rules.specs.Nets.Leaves.{matters}
 use Rattle.rules.specs.Nets.Wirings.{first_input}

@@ -1,8 +1,9 @@
 -- The leaves of a table (document 02, K12) as a group: "A settled tree now has just the inputs that matter as leaves; if fewer than two do, the
 -- first-listed others make up two." They are distinct inputs, so the sum of their powers is the group of exactly these inputs.
 -- Assumes nothing.
-use Rattle.laws.specs.Prelude.{ℕ, ◌<◌, ◌+◌, ◌-◌, ◌^◌, suc, zero, max, ◌≡◌, ◌∙◌, sym, ap, refl, subst, ⊎_elim, true, false, Bool, ◌&&◌, not, true≢false, List}
-use Rattle.laws.specs.Prelude.{[], ◌∷◌, ◌++◌, map, Memᴰ, append-nil, mem_head, mem_tail, mem_append_cases, mem_append_left, arith}
+use Rattle.std.specs.Prelude.{◌<◌, ◌+◌, ◌-◌, ◌^◌, ◌≡◌, ◌&&◌, ◌∷◌, ◌++◌}
+use Rattle.laws.specs.Prelude.{ℕ, suc, zero, max, ◌∙◌, sym, ap, refl, subst, ⊎_elim, true, false, Bool, not, true≢false, List}
+use Rattle.laws.specs.Prelude.{[], map, Memᴰ, append-nil, mem_head, mem_tail, mem_append_cases, mem_append_left, arith}
 use Rattle.laws.specs.Prelude.{eqb, length, take, drop, length-append, length-take, take-append-drop, eq-eqb, eqb-true, pow_pos}
 use Rattle.rules.specs.Groups.Groups.{member, size}
 use Rattle.rules.specs.Lists.{range, any, those, total}

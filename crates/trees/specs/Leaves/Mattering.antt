@@ -1,7 +1,8 @@
 -- What it means that an input matters (document 02, K12): "An input matters when some two assignments differing only there differ in ink." So two
 -- assignments that agree at every input that matters have the same ink, and a group that holds those inputs determines the ink.
 -- Assumes nothing.
-use Rattle.laws.specs.Prelude.{ℕ, ◌<◌, ◌≤◌, ◌^◌, suc, zero, ◌≡◌, ◌∙◌, sym, ap, refl, ◌↔◌, ◌≢◌, by_cases, true, false, Bool, not, true≢false, List, Memᴰ}
+use Rattle.std.specs.Prelude.{◌<◌, ◌≤◌, ◌^◌, ◌≡◌, ◌↔◌, ◌≢◌}
+use Rattle.laws.specs.Prelude.{ℕ, suc, zero, ◌∙◌, sym, ap, refl, by_cases, true, false, Bool, not, true≢false, List, Memᴰ}
 use Rattle.laws.specs.Prelude.{dec_lt, ℕ_discrete, arith, get_or, eq-eqb, ne_eqb, eqb-false, test_cases}
 use Rattle.rules.specs.Groups.Groups.{member, part, points, others, alike, alike_over, multiplicity}
 use Rattle.rules.specs.Lists.{any, all, first_place}

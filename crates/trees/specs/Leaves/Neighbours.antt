@@ -1,7 +1,8 @@
 -- One input of a table: its assignments, and how neighbours decide whether it matters. Two indices are neighbours at an input if they differ only
 -- there, and by one level: their difference is the input's weight.
 -- Assumes nothing.
-use Rattle.laws.specs.Prelude.{ℕ, ◌<◌, ◌+◌, ◌-◌, ◌^◌, suc, ◌*◌, zero, ◌%◌, ◌/◌, ◌≡◌, ◌∙◌, sym, ap, refl, true, false, Bool, not, cond, List, [], ◌∷◌, map}
+use Rattle.std.specs.Prelude.{◌<◌, ◌+◌, ◌-◌, ◌^◌, ◌*◌, ◌%◌, ◌/◌, ◌≡◌, ◌∷◌}
+use Rattle.laws.specs.Prelude.{ℕ, suc, zero, ◌∙◌, sym, ap, refl, true, false, Bool, not, cond, List, [], map}
 use Rattle.laws.specs.Prelude.{Memᴰ, append-nil, map-map, mem_of_map, zero-add, add-zero, zero-mul, pow-suc, suc-mul, pow-zero, div-add-mod', mul-one}
 use Rattle.laws.specs.Prelude.{one-le-pow, le_refl, mul_assoc, one-mul, le_step, zero-div, zero-mod, mul-add-div_right, add-one, dec_lt, arith, eq-eqb}
 use Rattle.laws.specs.Prelude.{eqb-true, ne_eqb, digits_mod}

@@ -1,7 +1,8 @@
 -- Two gate lists that agree "in left and right throughout and in every table but the last" (document 02, K14), and what follows: they are one wiring,
 -- every gate but the last has changed in both or in neither, and their sheets are the same bytes except for the last line's table field.
 -- Assumes nothing.
-use Rattle.laws.specs.Prelude.{ℕ, ◌<◌, ◌-◌, ◌≡◌, ◌∙◌, sym, ap, ◌≢◌, List, [], ◌∷◌, ◌++◌, map, append_assoc, append-nil, arith, length, length-map}
+use Rattle.std.specs.Prelude.{◌<◌, ◌-◌, ◌≡◌, ◌≢◌, ◌∷◌, ◌++◌}
+use Rattle.laws.specs.Prelude.{ℕ, ◌∙◌, sym, ap, List, [], map, append_assoc, append-nil, arith, length, length-map}
 use Rattle.laws.specs.Prelude.{get_or-append}
 use Rattle.rules.specs.Calls.Keeping.{table_at, changed_gates}
 use Rattle.rules.specs.Groups.Groups.{member}

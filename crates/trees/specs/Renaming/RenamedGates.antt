@@ -1,7 +1,8 @@
 -- "When made, their gate lines agree in left and right throughout and in every table but the last. The last tables differ by that renaming at each
 -- digit that some assignment reaches." (document 02, K14): for any wiring that can be filled.
 -- Assumes nothing.
-use Rattle.laws.specs.Prelude.{ℕ, ◌<◌, ◌+◌, ◌^◌, ◌*◌, ◌%◌, ◌/◌, ◌≡◌, ◌∙◌, sym, ap, refl, subst, ap₂, fun_ext, ◌≢◌, true, false, List, [], ◌∷◌, ◌++◌, mod-lt}
+use Rattle.std.specs.Prelude.{◌<◌, ◌+◌, ◌^◌, ◌*◌, ◌%◌, ◌/◌, ◌≡◌, ◌≢◌, ◌∷◌, ◌++◌}
+use Rattle.laws.specs.Prelude.{ℕ, ◌∙◌, sym, ap, refl, subst, ap₂, fun_ext, true, false, List, [], mod-lt}
 use Rattle.laws.specs.Prelude.{div-lt_iff_lt-mul, div-add-mod', arith, eqb, length, get_or}
 use Rattle.rules.specs.Groups.Groups.{part, points, others, size, classes, alike_over}
 use Rattle.rules.specs.Lists.{first_place, with_each}

@@ -1,7 +1,8 @@
 -- The nets made of two tables, one a renaming of the other's inks: settled, shallow, of each number of the family, and a kept wiring filled
 -- anew. The two nets are the same except for the last table, which is renamed (document 02, K14).
 -- Assumes nothing.
-use Rattle.laws.specs.Prelude.{ℕ, ◌<◌, ◌^◌, List, arith, length-map}
+use Rattle.std.specs.Prelude.{◌<◌, ◌^◌}
+use Rattle.laws.specs.Prelude.{ℕ, List, arith, length-map}
 use Rattle.rules.specs.Calls.Keeping.{link_of, gate_links, kept_gates}
 use Rattle.rules.specs.Sheets.SheetRules.{IsNet}
 use Rattle.rules.specs.Sheets.Sheets.{Gate}

@@ -1,7 +1,8 @@
 -- Two tables, one a renaming of the other's inks, have the same wirings, since these are chosen by marks and leaves: the settled one, the
 -- shallow one, and each of the family, and equally many of these. A given wiring fits both or neither, at the same gate.
 -- Assumes nothing.
-use Rattle.laws.specs.Prelude.{ℕ, ◌<◌, ◌+◌, ◌-◌, suc, ◌≡◌, ◌∙◌, sym, ap, refl, ap₂, Bool, ◌&&◌, not, List, [], ◌∷◌, ◌++◌, map, eqb, ltb, length, get_or}
+use Rattle.std.specs.Prelude.{◌<◌, ◌+◌, ◌-◌, ◌≡◌, ◌&&◌, ◌∷◌, ◌++◌}
+use Rattle.laws.specs.Prelude.{ℕ, suc, ◌∙◌, sym, ap, refl, ap₂, Bool, not, List, [], map, eqb, ltb, length, get_or}
 use Rattle.laws.specs.Prelude.{length-map}
 use Rattle.rules.specs.Calls.Answers.{ink_in}
 use Rattle.rules.specs.Calls.Keeping.{link_of, roomy_gates, roomy_before, leaves_out}

@@ -1,7 +1,8 @@
 -- "two full table sheets with the same first three lines, one got from the other by a one-to-one renaming of the ink levels" (document 02, K14).
 -- Alike compares inks only for equality, so everything derived from it is the same for both tables: classes, marks, the inputs that matter.
 -- Assumes nothing.
-use Rattle.laws.specs.Prelude.{ℕ, ◌<◌, ◌+◌, ◌^◌, suc, zero, ◌≡◌, ◌∙◌, sym, ap, refl, not, List, [], Memᴰ, mem_not_nil, mem_eq_of_singleton}
+use Rattle.std.specs.Prelude.{◌<◌, ◌+◌, ◌^◌, ◌≡◌}
+use Rattle.laws.specs.Prelude.{ℕ, suc, zero, ◌∙◌, sym, ap, refl, not, List, [], Memᴰ, mem_not_nil, mem_eq_of_singleton}
 use Rattle.laws.specs.Prelude.{dec_lt, arith, eqb, length, eq-eqb, eqb-true}
 use Rattle.rules.specs.Groups.Groups.{points, others, whole_group, alike_over, alike, classes, multiplicity}
 use Rattle.rules.specs.Groups.Marks.{mark_of, marks_below, marks_of}

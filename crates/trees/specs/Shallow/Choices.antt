@@ -1,6 +1,7 @@
 -- At each gate, a wiring by a choice of parts takes the part that the choice gives.
 -- Assumes nothing.
-use Rattle.laws.specs.Prelude.{ℕ, ◌<◌, ◌≤◌, ◌+◌, ◌-◌, ◌^◌, suc, zero, ◌≡◌, refl, ◌≢◌, true, false, Bool, arith, eqb, eqb-false}
+use Rattle.std.specs.Prelude.{◌<◌, ◌≤◌, ◌+◌, ◌-◌, ◌^◌, ◌≡◌, ◌≢◌}
+use Rattle.laws.specs.Prelude.{ℕ, suc, zero, refl, true, false, Bool, arith, eqb, eqb-false}
 use Rattle.rules.specs.Groups.Groups.{size}
 use Rattle.rules.specs.Groups.Marks.{inside}
 use Rattle.rules.specs.Nets.Wirings.{Wiring, input, gate, group_of, first_input, wiring_by}

@@ -1,7 +1,8 @@
 -- The computed list of fewest layers: a group that splits into two groups of mark 2 has one layer more than the deeper part of its shallowest
 -- split; any other group has none. This holds for any marks.
 -- Assumes nothing.
-use Rattle.laws.specs.Prelude.{ℕ, ◌<◌, ◌≤◌, ◌+◌, ◌-◌, ◌^◌, suc, zero, max, ◌≡◌, ◌∙◌, sym, ap, refl, ⊎_elim, ◌⊎◌, inl, inr, true, List, [], by_cases, ◌∷◌, map}
+use Rattle.std.specs.Prelude.{◌<◌, ◌≤◌, ◌+◌, ◌-◌, ◌^◌, ◌≡◌, ◌⊎◌, ◌∷◌}
+use Rattle.laws.specs.Prelude.{ℕ, suc, zero, max, ◌∙◌, sym, ap, refl, ⊎_elim, inl, inr, true, List, [], by_cases, map}
 use Rattle.laws.specs.Prelude.{Memᴰ, mem_not_nil, mem_of_map, mem_map, add-one, ℕ_discrete, arith, length, get_or, length-append, get_or-append}
 use Rattle.laws.specs.Prelude.{get_or_at, test_cases}
 use Rattle.rules.specs.Groups.Groups.{member, size}

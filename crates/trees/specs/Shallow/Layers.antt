@@ -1,6 +1,7 @@
 -- "The layers of a net are the most gates on a way from an input to the output.": they are the depth of the net's tree.
 -- Assumes nothing.
-use Rattle.laws.specs.Prelude.{ℕ, ◌<◌, ◌≤◌, ◌+◌, ◌-◌, suc, ◌≡◌, sym, refl, List, [], ◌∷◌, ◌++◌, map, Memᴰ, map-map}
+use Rattle.std.specs.Prelude.{◌<◌, ◌≤◌, ◌+◌, ◌-◌, ◌≡◌, ◌∷◌, ◌++◌}
+use Rattle.laws.specs.Prelude.{ℕ, suc, sym, refl, List, [], map, Memᴰ, map-map}
 use Rattle.laws.specs.Prelude.{arith, length, length-append, length-map}
 use Rattle.rules.specs.Lists.{range}
 use Rattle.rules.specs.Nets.Trees.{Tree, leaf, node, wiring_in}

@@ -2,7 +2,8 @@
 -- shallowest": this holds at each gate; it is a wiring of the group, as deep as the group's fewest layers; and no wiring of the group with few
 -- classes at each gate has fewer.
 -- Assumes nothing.
-use Rattle.laws.specs.Prelude.{ℕ, ◌<◌, ◌≤◌, ◌+◌, ◌-◌, ◌^◌, max, ◌≡◌, ◌≢◌, ⊎_elim, true, Bool, ◌&&◌, and-eq-true_iff, List, arith, eqb}
+use Rattle.std.specs.Prelude.{◌<◌, ◌≤◌, ◌+◌, ◌-◌, ◌^◌, ◌≡◌, ◌≢◌, ◌&&◌}
+use Rattle.laws.specs.Prelude.{ℕ, max, ⊎_elim, true, Bool, and-eq-true_iff, List, arith, eqb}
 use Rattle.laws.specs.Prelude.{eq-eqb, eqb-true}
 use Rattle.rules.specs.Groups.Groups.{size}
 use Rattle.rules.specs.Groups.Marks.{inside, marks_of}

@@ -1,6 +1,7 @@
 -- All net sheets with one header that use the same inputs have the same length: each has the same references and equally many digits.
 -- Assumes nothing.
-use Rattle.laws.specs.Prelude.{ℕ, ◌+◌, ◌-◌, ◌*◌, ◌≡◌, ◌∙◌, sym, ap, ap₂, subst⁻¹, List, [], ◌∷◌, map, arith, length, length-append, length-map}
+use Rattle.std.specs.Prelude.{◌+◌, ◌-◌, ◌*◌, ◌≡◌, ◌∷◌}
+use Rattle.laws.specs.Prelude.{ℕ, ◌∙◌, sym, ap, ap₂, subst⁻¹, List, [], map, arith, length, length-append, length-map}
 use Rattle.rules.specs.Lists.{range, concat_map, total}
 use Rattle.rules.specs.Nets.Arrivals.{used_inputs}
 use Rattle.rules.specs.Sheets.Printed.{line, printed_gate, printed_net}

@@ -2,7 +2,8 @@
 -- gates' digits. A net with the table has every input that matters among its leaves; and if the whole group has mark 2, the settled net, which
 -- is on the table's leaves, has the table.
 -- Assumes nothing.
-use Rattle.laws.specs.Prelude.{ℕ, ◌<◌, ◌^◌, ◌≡◌, ◌∙◌, sym, ap, true≢false, List, arith}
+use Rattle.std.specs.Prelude.{◌<◌, ◌^◌, ◌≡◌}
+use Rattle.laws.specs.Prelude.{ℕ, ◌∙◌, sym, ap, true≢false, List, arith}
 use Rattle.rules.specs.Groups.Groups.{part, size}
 use Rattle.rules.specs.Nets.Filling.{filled}
 use Rattle.rules.specs.Nets.Trees.{Tree, wiring_in, tree_value, EachOnce, Filled, Computes}

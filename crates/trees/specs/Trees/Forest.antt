@@ -1,7 +1,8 @@
 -- The trees below the references: an input's is its leaf, and a gate's joins those of its two references. The values of the
 -- references are the values of their trees.
 -- Assumes nothing.
-use Rattle.laws.specs.Prelude.{ℕ, ◌<◌, ◌+◌, ◌-◌, ◌≡◌, ◌∙◌, ap, List, map, map-map, zero-add, arith, length, get_or}
+use Rattle.std.specs.Prelude.{◌<◌, ◌+◌, ◌-◌, ◌≡◌}
+use Rattle.laws.specs.Prelude.{ℕ, ◌∙◌, ap, List, map, map-map, zero-add, arith, length, get_or}
 use Rattle.rules.specs.Lists.{range, with_each}
 use Rattle.rules.specs.Nets.Trees.{Tree, leaf, node, tree_value}
 use Rattle.rules.specs.Nets.Value.{gate_value, with_gates, value, value_with}

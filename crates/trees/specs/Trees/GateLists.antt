@@ -1,7 +1,8 @@
 -- A wiring's gate list by the class rule ("A's, then B's, then the group's own"): the lines of its filling. So it follows every rule of a net
 -- sheet and has the tree's value. `Fillings` proves that it is the filling of the wiring's links.
 -- Assumes nothing.
-use Rattle.laws.specs.Prelude.{ℕ, ◌<◌, ◌+◌, ◌≡◌, refl, ap₂, false, Bool, List, [], ◌∷◌, ◌++◌, arith}
+use Rattle.std.specs.Prelude.{◌<◌, ◌+◌, ◌≡◌, ◌∷◌, ◌++◌}
+use Rattle.laws.specs.Prelude.{ℕ, refl, ap₂, false, Bool, List, [], arith}
 use Rattle.rules.specs.Nets.Filling.{gate_digits}
 use Rattle.rules.specs.Nets.Trees.{wiring_in, EachOnce}
 use Rattle.rules.specs.Nets.Wirings.{Wiring, input, gate, group_of, gates_in, reference_to}

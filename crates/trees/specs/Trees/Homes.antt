@@ -1,7 +1,8 @@
 -- An input's home: while gates use references, each input stays below exactly one reference that is not yet used. So the trees
 -- of two unused references share no input, and a gate that joins them has each of its inputs once.
 -- Assumes nothing.
-use Rattle.laws.specs.Prelude.{ℕ, ◌<◌, ◌≤◌, ◌^◌, ◌≡◌, ◌∙◌, sym, refl, true, false, Bool, ◌||◌, List, [], ◌∷◌, ◌++◌, append_assoc, append-nil, dec_lt, arith}
+use Rattle.std.specs.Prelude.{◌<◌, ◌≤◌, ◌^◌, ◌≡◌, ◌||◌, ◌∷◌, ◌++◌}
+use Rattle.laws.specs.Prelude.{ℕ, ◌∙◌, sym, refl, true, false, Bool, List, [], append_assoc, append-nil, dec_lt, arith}
 use Rattle.laws.specs.Prelude.{eqb, length, get_or-append, get_or-append_seam, eq-eqb, eqb-true, ne_eqb, eqb-false, test_cases}
 use Rattle.rules.specs.Groups.Groups.{member}
 use Rattle.rules.specs.Lists.{any, with_each}

@@ -1,6 +1,7 @@
 -- Gate lists joined end to end: their references, their tables and their values.
 -- Assumes nothing.
-use Rattle.laws.specs.Prelude.{ℕ, ◌+◌, suc, ◌≡◌, refl, List, [], ◌∷◌, ◌++◌, add-zero, arith, length}
+use Rattle.std.specs.Prelude.{◌+◌, ◌≡◌, ◌∷◌, ◌++◌}
+use Rattle.laws.specs.Prelude.{ℕ, suc, refl, List, [], add-zero, arith, length}
 use Rattle.rules.specs.Sheets.SheetRules.{RefersBack, Tables}
 use Rattle.rules.specs.Sheets.Sheets.{Gate, used_by}
 

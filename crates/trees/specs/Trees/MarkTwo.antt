@@ -1,7 +1,8 @@
 -- A group has mark 2 exactly if it has a wiring all of whose gates' groups have at most m classes. Any choice of parts that both have
 -- mark 2 gives such a wiring; document 01's choice of A is one.
 -- Assumes nothing.
-use Rattle.laws.specs.Prelude.{ℕ, ◌<◌, ◌≤◌, ◌+◌, ◌-◌, ◌^◌, suc, zero, ◌≡◌, ◌∙◌, sym, ap, refl, ◌≢◌, ⊎_elim, ◌⊎◌, true, false, Bool, ◌&&◌, and-eq-true_iff}
+use Rattle.std.specs.Prelude.{◌<◌, ◌≤◌, ◌+◌, ◌-◌, ◌^◌, ◌≡◌, ◌≢◌, ◌⊎◌, ◌&&◌}
+use Rattle.laws.specs.Prelude.{ℕ, suc, zero, ◌∙◌, sym, ap, refl, ⊎_elim, true, false, Bool, and-eq-true_iff}
 use Rattle.laws.specs.Prelude.{List, arith, eqb, eqb-true, eqb-false}
 use Rattle.rules.specs.Groups.Groups.{member, size}
 use Rattle.rules.specs.Groups.Marks.{inside, mark_in, parts_at, marks_of}

@@ -1,6 +1,7 @@
 -- A net's table follows a table sheet's rules and has a tree; its settled net follows a net sheet's rules and has that table.
 -- Assumes nothing.
-use Rattle.laws.specs.Prelude.{ℕ, ◌<◌, ◌≡◌, subst, true, arith}
+use Rattle.std.specs.Prelude.{◌<◌, ◌≡◌}
+use Rattle.laws.specs.Prelude.{ℕ, subst, true, arith}
 use Rattle.rules.specs.Limits.{levels_fit, inputs_fit}
 use Rattle.rules.specs.Sheets.Reading.{table_of_net}
 use Rattle.rules.specs.Sheets.SheetRules.{NetRules, TableRules, FullTable}

@@ -1,7 +1,8 @@
 -- A net is a tree: a gate list in which each reference is an input or an earlier gate, none is used twice and every gate but
 -- the last is used. Its leaves are the inputs that the gates use.
 -- Assumes nothing.
-use Rattle.laws.specs.Prelude.{ℕ, ◌<◌, ◌≤◌, ◌+◌, ◌-◌, ◌^◌, suc, ◌≡◌, ◌∙◌, sym, refl, false≢true, List, [], ◌∷◌, dec_lt, arith, eqb, length, eq-eqb, eqb-true}
+use Rattle.std.specs.Prelude.{◌<◌, ◌≤◌, ◌+◌, ◌-◌, ◌^◌, ◌≡◌, ◌∷◌}
+use Rattle.laws.specs.Prelude.{ℕ, suc, ◌∙◌, sym, refl, false≢true, List, [], dec_lt, arith, eqb, length, eq-eqb, eqb-true}
 use Rattle.laws.specs.Prelude.{ne_eqb}
 use Rattle.rules.specs.Groups.Groups.{member}
 use Rattle.rules.specs.Lists.{any}

@@ -1,6 +1,7 @@
 -- Refusal 16, "no tree", and its place: "the group of fewest members, then lowest number, with mark 1".
 -- Assumes nothing.
-use Rattle.laws.specs.Prelude.{ℕ, ◌<◌, ◌≤◌, ◌+◌, ◌^◌, suc, zero, ◌≡◌, ◌∙◌, sym, ◌↔◌, ◌≢◌, ⊎_elim, ◌⊎◌, inl, inr, true, Bool, ◌&&◌, and-eq-true_iff, List}
+use Rattle.std.specs.Prelude.{◌<◌, ◌≤◌, ◌+◌, ◌^◌, ◌≡◌, ◌↔◌, ◌≢◌, ◌⊎◌, ◌&&◌}
+use Rattle.laws.specs.Prelude.{ℕ, suc, zero, ◌∙◌, sym, ⊎_elim, inl, inr, true, Bool, and-eq-true_iff, List}
 use Rattle.laws.specs.Prelude.{ℕ_discrete, arith, eqb, eq-eqb, eqb-true, pow-lt}
 use Rattle.rules.specs.Groups.Groups.{part, size, multiplicity, whole_group}
 use Rattle.rules.specs.Groups.Marks.{mark_in, marks_of, by_size, no_tree_place}

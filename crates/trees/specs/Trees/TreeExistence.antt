@@ -1,7 +1,8 @@
 -- Section I's trees themselves, with any wiring and any digits: each is some net, and each net is one. So a tree computes a table exactly
 -- if a net does.
 -- Assumes nothing.
-use Rattle.laws.specs.Prelude.{ℕ, ◌+◌, ◌*◌, ◌≡◌, List, arith, get_or}
+use Rattle.std.specs.Prelude.{◌+◌, ◌*◌, ◌≡◌}
+use Rattle.laws.specs.Prelude.{ℕ, List, arith, get_or}
 use Rattle.rules.specs.Nets.Trees.{Tree, leaf, node, wiring_in, EachOnce, tree_value, UsesJust, GateTree}
 use Rattle.rules.specs.Nets.Value.{value}
 use Rattle.rules.specs.Nets.Wirings.{group_of}

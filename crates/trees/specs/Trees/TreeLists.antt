@@ -1,7 +1,8 @@
 -- A tree is a net: its gates written out ("A's, then B's, then the group's own") with its own digits, whatever they are, follow every
 -- rule of a net sheet and have the tree's value. `NetTree` proves the converse: a net is a tree.
 -- Assumes nothing.
-use Rattle.laws.specs.Prelude.{ℕ, ◌<◌, ◌≤◌, ◌+◌, suc, ◌≡◌, ◌∙◌, sym, ap, refl, by_cases, true, false, Bool, List, [], ◌∷◌, ◌++◌, Memᴰ}
+use Rattle.std.specs.Prelude.{◌<◌, ◌≤◌, ◌+◌, ◌≡◌, ◌∷◌, ◌++◌}
+use Rattle.laws.specs.Prelude.{ℕ, suc, ◌∙◌, sym, ap, refl, by_cases, true, false, Bool, List, [], Memᴰ}
 use Rattle.laws.specs.Prelude.{zero-add, add-zero, add_assoc, dec_lt, arith, eqb, length, get_or, length-append, eq-eqb}
 use Rattle.rules.specs.Groups.Groups.{member}
 use Rattle.rules.specs.Lists.{range, any, those}

@@ -1,7 +1,8 @@
 -- What the theorems are about: wirings of a group, the class rule's tree, alike as a statement. (Trees are in `rules`, `Nets/Trees`; a net sheet's
 -- rules in `Sheets/SheetRules`.)
 -- Assumes nothing.
-use Rattle.laws.specs.Prelude.{ℕ, ◌+◌, ◌≡◌, false, Bool}
+use Rattle.std.specs.Prelude.{◌+◌, ◌≡◌}
+use Rattle.laws.specs.Prelude.{ℕ, false, Bool}
 use Rattle.rules.specs.Groups.Groups.{part, others}
 use Rattle.rules.specs.Nets.Filling.{gate_digits}
 use Rattle.rules.specs.Nets.Trees.{Tree, leaf, node, EachOnce}

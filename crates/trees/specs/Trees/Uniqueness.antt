@@ -1,7 +1,8 @@
 -- The settled net depends only on the table: two nets have the same settled net exactly if they compute the same table, "unused inputs included"
 -- (document 02, K12): a net's table is over all inputs, whichever it uses.
 -- Assumes nothing.
-use Rattle.laws.specs.Prelude.{ℕ, ◌<◌, ◌^◌, ◌≡◌, ◌∙◌, sym, ap, subst, subst⁻¹, List, zero-add, length, ext_get_or}
+use Rattle.std.specs.Prelude.{◌<◌, ◌^◌, ◌≡◌}
+use Rattle.laws.specs.Prelude.{ℕ, ◌∙◌, sym, ap, subst, subst⁻¹, List, zero-add, length, ext_get_or}
 use Rattle.rules.specs.Calls.Answers.{ink_in}
 use Rattle.rules.specs.Groups.Marks.{marks_of}
 use Rattle.rules.specs.Nets.Settled.{settled_gates}

@@ -1,7 +1,8 @@
 -- "No input or gate is referred to twice.": a sum over the references that a net uses is the sum over its used inputs and over every gate but the
 -- last. So a net has one gate fewer than it uses inputs.
 -- Assumes nothing.
-use Rattle.laws.specs.Prelude.{ℕ, ◌<◌, ◌≤◌, ◌+◌, ◌-◌, suc, zero, ◌≡◌, ◌∙◌, sym, ap, refl, by_cases, true, false, Bool, true≢false, cond, ◌||◌, List, [], ◌∷◌}
+use Rattle.std.specs.Prelude.{◌<◌, ◌≤◌, ◌+◌, ◌-◌, ◌≡◌, ◌||◌, ◌∷◌}
+use Rattle.laws.specs.Prelude.{ℕ, suc, zero, ◌∙◌, sym, ap, refl, by_cases, true, false, Bool, true≢false, cond, List, []}
 use Rattle.laws.specs.Prelude.{map, Memᴰ, mem_head, mem_tail, zero-add, add-zero, ℕ_discrete, arith, eqb, length, eqb-true, ne_eqb}
 use Rattle.laws.specs.Prelude.{eqb-false}
 use Rattle.rules.specs.Groups.Groups.{member, size}

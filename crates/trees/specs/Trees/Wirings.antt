@@ -1,7 +1,8 @@
 -- For any group and any wiring of it: some filling determines the ink exactly if every gate's group has at most m classes,
 -- and then the class rule's filling does.
 -- Assumes nothing.
-use Rattle.laws.specs.Prelude.{ℕ, ◌<◌, ◌+◌, ◌^◌, suc, ◌*◌, ◌≡◌, ◌∙◌, sym, ap₂, true, false, Bool, List, arith, get_or, digits_lt, pow_pos}
+use Rattle.std.specs.Prelude.{◌<◌, ◌+◌, ◌^◌, ◌*◌, ◌≡◌}
+use Rattle.laws.specs.Prelude.{ℕ, suc, ◌∙◌, sym, ap₂, true, false, Bool, List, arith, get_or, digits_lt, pow_pos}
 use Rattle.rules.specs.Groups.Groups.{size, part}
 use Rattle.rules.specs.Nets.Filling.{carried, given}
 use Rattle.rules.specs.Nets.Trees.{Tree, leaf, node, wiring_in, tree_value, EachOnce, Filled}
