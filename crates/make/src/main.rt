@@ -1,13 +1,17 @@
 // Makes the net of the table sheet on standard input. Prints what `programs::output::make_output` returns.
 #![tactic(auto)]
 
-use libc::{STDIN_FILENO, STDOUT_FILENO};
+use radix::limits;
+use std::io;
+use std::io::prelude::*;
 
-fn main() {
-    let mut sheet = io::large_buffer();
-    let length = io::read_full(STDIN_FILENO, &mut sheet);
-    let printed = programs::output::make_output(&sheet[..length]);
+fn main(rt: HostRuntime) -> io::Result<()> {
+    let mut sheet = Vec::new(rt.alloc());
+    rt.stdin()
+        .take(limits::MOST_READ as u64)
+        .read_to_end(&mut sheet)?;
+    let printed = programs::output::make_output(&sheet);
     let bytes = printed.bytes;
     let end = printed.length;
-    io::write_all(STDOUT_FILENO, &bytes[..end]);
+    rt.stdout().write_all(&bytes[..end])
 }
