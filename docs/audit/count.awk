@@ -172,10 +172,11 @@ function follow_name(file, name,    source) {
 
 # ---- statements and contracts
 
-# Counts a statement, given as `name crate/Folder/File`. A definition among them counts as one.
+# Counts a statement, given as `name crate/Folder/File`. A definition among them counts as one. A theorem may stand in the file of that name in proofs/.
 function read_root(words_of_root,    words, file) {
     split(words_of_root, words, " ")
     file = words[2]; sub(/\//, "/specs/", file); file = "crates/" file ".antt"
+    if (!((file, words[1]) in kind_of)) sub(/\/specs\//, "/proofs/", file)
     if ((file, words[1]) in kind_of) reach(file SUBSEP words[1], kind_of[file, words[1]] == "plain")
 }
 
