@@ -1,6 +1,6 @@
 /*
  * The calls of Sitgurp for C99 and C++11, for Linux on x86-64, in libsitgurp.a and libsitgurp.so (`./install PREFIX`; in the repository the archive is
- * target/staticlib/libcapi.a, which `rt staticlib capi` writes). Each is proved to meet an equation with the definitions in crates/rules/specs for every
+ * crates/capi/out/libcapi.a, which `rt lib` writes in crates/capi). Each is proved to meet an equation with the definitions in crates/rules/specs for every
  * argument: see crates/capi/src/lib.rt. `./install --aarch64 PREFIX` adds an archive for Linux on aarch64, compiled from the same proved code.
  *
  * Each call depends on its arguments alone and writes to nothing but the buffers lent to it. It keeps nothing from one call to the next, so any

@@ -6,6 +6,7 @@ FNR == NR { root[++roots] = $0; next }
 { if ($0 ~ /\.rt$/) calls[++call_files] = $0; else files[++file_count] = $0 }
 
 END {
+    for (k = 1; k <= file_count; k++) { split(files[k], parts, "/"); is_crate[parts[2]] = 1 }
     read_prelude("crates/laws/specs/Prelude.antt")
     for (k = 1; k <= file_count; k++) read_file(files[k])
     print_row("", "files", "texts", "lines")
@@ -21,11 +22,12 @@ END {
 
 # ---- reading
 
-# Returns the specification of a module, `Rattle·rules.specs.Groups.Marks`; "" for a module of the toolchain's library.
-function file_of(module) {
-    if (module !~ /^Rattle·/) return ""
-    sub(/^Rattle·/, "", module)
-    sub(/·specs\.specs\./, ".specs.", module)
+# Returns the specification of a module of one of our crates, `Rattle.rules.specs.Groups.Marks`; "" for a module of the toolchain's library.
+function file_of(module,    parts) {
+    if (module !~ /^Rattle\./) return ""
+    split(module, parts, ".")
+    if (!(parts[2] in is_crate)) return ""
+    sub(/^Rattle\./, "", module)
     gsub(/\./, "/", module)
     return "crates/" module ".antt"
 }
@@ -40,7 +42,10 @@ function read_prelude(file,    line, module, names, count, k) {
         sub(/^[^{]*\{/, "", line)
         sub(/\}.*/, "", line)
         count = split(line, names, /, */)
-        for (k = 1; k <= count; k++) passed_on[names[k]] = module
+        for (k = 1; k <= count; k++) {
+            sub(/.* as /, "", names[k])
+            passed_on[names[k]] = module
+        }
     }
     close(file)
 }
@@ -55,7 +60,7 @@ function read_use(file, line,    module, source, names, count, k) {
     sub(/\}.*/, "", line)
     count = split(line, names, /, */)
     for (k = 1; k <= count; k++) {
-        source = module ~ /\.Prelude$/ ? passed_on[names[k]] : module
+        source = module ~ /\.Prelude$/ && names[k] in passed_on ? passed_on[names[k]] : module
         from[file, names[k]] = file_of(source)
         module_of[file, names[k]] = source
     }
@@ -157,7 +162,7 @@ function follow(file, text,    words, count, k) {
 # Follows one name: to its declaration in the file or in the file that it is taken from, or to the type that it belongs to. A type of the code has its
 # declaration there.
 function follow_name(file, name,    source) {
-    if (!((file, name) in from) && (file, "_" name "_") in from) name = "_" name "_"
+    if (!((file, name) in from) && (file, "◌" name "◌") in from) name = "◌" name "◌"
     source = (file, name) in from ? from[file, name] : file
     if (source == "") library[module_of[file, name] "." name] = 1
     else if (source ~ /\/declared\//) return
@@ -167,10 +172,11 @@ function follow_name(file, name,    source) {
 
 # ---- statements and contracts
 
-# Counts a statement, given as `name crate/Folder/File`. A definition among them counts as one.
+# Counts a statement, given as `name crate/Folder/File`. A definition among them counts as one. A theorem may stand in the file of that name in proofs/.
 function read_root(words_of_root,    words, file) {
     split(words_of_root, words, " ")
     file = words[2]; sub(/\//, "/specs/", file); file = "crates/" file ".antt"
+    if (!((file, words[1]) in kind_of)) sub(/\/specs\//, "/proofs/", file)
     if ((file, words[1]) in kind_of) reach(file SUBSEP words[1], kind_of[file, words[1]] == "plain")
 }
 

@@ -1,37 +1,38 @@
-# Shared by ./run, ./install and ./test: proves the library and builds the command if they are missing or older than their sources.
+# Shared by ./run, ./install, ./test and web/build: proves the library and builds the command if they are missing or older than their sources.
 # `here` is the repository.
 
-# Tells whether a file is missing, or older than the crates.
+# Where `rt lib` in crates/capi writes the static library.
+archive=$here/crates/capi/out/libcapi.a
+
+# Tells whether a file is missing, or older than the crates. What `rt` makes in a crate's out/ is no source.
 is_old() {
-    [ ! -f "$1" ] || [ -n "$(find "$here/crates" "$here/crates.txt" -newer "$1" -print -quit)" ]
+    [ ! -f "$1" ] || [ -n "$(find "$here/crates" "$here/crates.txt" -name out -prune -o -newer "$1" \( ! -type d -o -path "$here/crates/*/*" \) -print -quit)" ]
 }
 
-# Prints how many crates to prove at once, for a number of cores and of free megabytes. `rt` waits for each batch to end, so a batch has more crates
-# than there are cores; many more share the caches and take longer. The largest check takes 2.4 GB, and its files 0.6 GB.
+# Prints how many crates to prove at once, for a number of cores and of free megabytes. The largest check takes 2.4 GB, and its files 0.6 GB.
 jobs_for() {
     local by_cores=$(($1 < 4 ? $1 + 1 : 2 * $1)) by_memory=$(($2 / 3000))
     local jobs=$((by_cores < by_memory ? by_cores : by_memory))
     echo $((jobs < 1 ? 1 : jobs))
 }
 
-# Prints how many crates to prove at once on this machine. RT_JOBS overrides it.
+# Prints how many checks this machine has memory for at once. RT_JOBS overrides it.
 parallel_checks() {
     local megabytes
     megabytes=$(awk '/^MemAvailable:/ { print int($2 / 1024) }' /proc/meminfo 2>/dev/null || true)
     echo "${RT_JOBS:-$(jobs_for "$(nproc)" "${megabytes:-3000}")}"
 }
 
-# Prints how many must-fail edits to try at once on this machine: no more than cores. The edits of a crate take about the same time, so no core waits for
-# long, and fewer checks at once share the caches better. RT_JOBS overrides it.
-parallel_edits() {
+# Prints how many crates to prove at once on this machine: no more than cores, since fewer checks at once share the caches better. RT_JOBS overrides it.
+# `rt ci` chooses for itself, for crates and for must-fail edits.
+parallel_crates() {
     local jobs cores
     jobs=$(parallel_checks)
     cores=$(nproc)
     echo "${RT_JOBS:-$((jobs < cores ? jobs : cores))}"
 }
 
-# Prints a new folder in memory, or nothing if there is none with room for the files of every check at once. Programs must be allowed to run there: `rt`
-# runs the proved ones from it, as another user.
+# Prints a new folder in memory, or nothing if there is none with room for the files of every check at once. Programs must be allowed to run there.
 memory_folder() {
     local folder room=$((600 * $(parallel_checks)))
     folder=$(mktemp -d /dev/shm/sitgurp.XXXXXX 2>/dev/null) || return 0
@@ -69,20 +70,15 @@ crates_under() {
     ' "$here/crates.txt"
 }
 
-# Reads what `rt` prints and counts the proved crates on standard error. The crate that they are for is last.
+# Reads what `rt all check` prints, and counts the crates on standard error, each as its check has ended.
 proving() {
-    local goal=$1 total=$2 done=0 line name
+    local total=$1 done=0 line
     while IFS= read -r line; do
         case $line in
-        "rt: $goal proved ("*) ;;
-        'rt: '*' proved ('*)
-            name=${line#rt: }
+        '== summary') ;;
+        '== '*)
             done=$((done + 1))
-            case $line in
-            *'(unchanged'*) ;;
-            *) printf 'crate %d of %d: %s\n' "$done" "$total" "${name%% *}" >&2 ;;
-            esac
-            [ "$done" -ne $((total - 1)) ] || printf 'crate %d of %d: %s\n' "$total" "$total" "$goal" >&2
+            printf 'crate %d of %d: %s\n' "$done" "$total" "${line#== }" >&2
             ;;
         esac
     done
@@ -91,28 +87,35 @@ proving() {
 # Prints the end of what `rt` said, and exits.
 failed() {
     tail -n 20 "$here/target/run.log" >&2
-    echo "rt $1 $2 has failed; $here/target/run.log has all that it said" >&2
+    echo "$1 has failed; $here/target/run.log has all that it said" >&2
     exit 2
 }
 
-# Proves the crates that a crate uses, several at once. The second word is what to call it. If there is a third, it is the crate itself, which is proved
-# too: `rt staticlib` does that for a library. `rt` waits for each batch, and takes crates in the order in which they are named; crates.txt has long
-# ones next to each other.
+# Proves all crates, several at once, and leaves their libraries in crates/*/out. What is up to date is not proved again.
 prove() {
-    local jobs under
-    jobs=$(parallel_checks)
-    mapfile -t under < <(crates_under "$1")
+    local jobs
+    jobs=$(parallel_crates)
     mkdir -p "$here/target"
-    echo "proving $2: once, some minutes, up to $jobs crates at once" >&2
-    (cd "$here" && RT_JOBS=$jobs in_memory rt check "${under[@]}" ${3:+"$3"} 2>&1) | tee "$here/target/run.log" | proving "$1" $((${#under[@]} + 1)) ||
-        failed check "$1"
+    echo "proving the library: once, some minutes, up to $jobs crates at once" >&2
+    (cd "$here" && in_memory rt all check --jobs "$jobs" 2>&1) | tee "$here/target/run.log" | proving "$(grep -c '^[a-z]' "$here/crates.txt")" ||
+        failed 'rt all check'
 }
 
-# Builds the static library. `rt staticlib` proves one crate after the other, so the crates below are proved before.
+# Builds the static library. `rt lib` alone would prove one crate after the other, so they are proved before.
 library() {
-    if is_old "$here/target/staticlib/libcapi.a"; then
-        prove capi 'the library'
-        (cd "$here" && in_memory rt staticlib capi) >"$here/target/run.log" 2>&1 || failed staticlib capi
+    if is_old "$archive"; then
+        prove
+        (cd "$here/crates/capi" && in_memory rt lib) >"$here/target/run.log" 2>&1 || failed 'rt lib in crates/capi'
+    fi
+}
+
+# Builds a proved program, crates/NAME/out/NAME. `rt run` runs it too, on an empty sheet.
+program_built() {
+    local name=$1
+    if is_old "$here/crates/$name/out/$name"; then
+        (cd "$here/crates/$name" && in_memory rt run) </dev/null >"$here/target/run.log" 2>&1 || failed "rt run in crates/$name"
+        # a crate that the program does not use may have changed
+        touch "$here/crates/$name/out/$name"
     fi
 }
 

@@ -23,20 +23,23 @@ shared_library() {
         echo '};'
     } > "$1.map"
     "${CC:-cc}" -shared -nostartfiles -s -Wl,-soname,"libsitgurp.so.$major" -Xlinker "--version-script=$1.map" -Wl,-z,defs,-z,relro,-z,now \
-        -Wl,--whole-archive "$here/target/staticlib/libcapi.a" -Wl,--no-whole-archive -o "$1"
+        -Wl,--whole-archive "$archive" -Wl,--no-whole-archive -o "$1"
     rm "$1.map"
 }
 
 # Compiles the library's LLVM module for Linux on aarch64, and writes the static library $1.
 aarch64_library() {
-    local clang ar parts=$1.parts
-    llvm_module
+    local clang ar words parts=$1.parts
+    library_and_module
     clang=$(kit_clang)
-    ar=$(kit_home)/on/$(uname -m)/toolchain/bin/llvm-ar
+    ar=$(kit_home)/toolchain/bin/llvm-ar
+    mapfile -t words < <(kit_flags)
     mkdir -p "$parts"
-    "$clang" --target=x86_64-linux-gnu -Xclang -disable-llvm-passes -S -emit-llvm -x ir "$here/target/web/module.bc" -o "$parts/x86_64.ll"
+    "$clang" --target=x86_64-linux-gnu -Wno-override-module -Xclang -disable-llvm-passes -S -emit-llvm -x ir "$here/target/web/module.bc" \
+        -o "$parts/x86_64.ll"
     awk -f "$here/rust/command/aarch64.awk" "$parts/x86_64.ll" > "$parts/aarch64.ll"
-    "$clang" --target=aarch64-linux-gnu -O3 -fPIC -ffunction-sections -Wno-override-module -c -x ir "$parts/aarch64.ll" -o "$parts/capi.o"
+    "$clang" --target=aarch64-linux-gnu -O3 -fPIC "${words[@]}" -mllvm -aarch64-load-store-renaming=false -Wno-override-module -c -x ir \
+        "$parts/aarch64.ll" -o "$parts/capi.o"
     rm -f "$1"
     "$ar" rcD "$1" "$parts/capi.o"
     rm -r "$parts"

@@ -2,7 +2,7 @@
 # Under valgrind: the three programs on a hundred generated sheets each, good and damaged; each command of `sitgurp` on the examples; and
 # some thousand calls of the library on buffers and sheets that lie on the heap with nothing after them. Ends with status 1 where valgrind
 # reports an error, or where a program writes something else than the second implementation.
-# The programs and the library are those in target/: `rt check settle make tidy && rt staticlib capi`.
+# The programs and the library are those in crates/*/out: `rt run` in crates/settle, make and tidy, and `rt lib` in crates/capi.
 set -euo pipefail
 cd "$(dirname "$0")/../.."
 seed=${1:-1}
@@ -22,7 +22,7 @@ program() {
     local errors=0 differing=0 sheet
     "$built/sheets" "$2" "$sheets" "$seed" "$folder/$1"
     for sheet in "$folder/$1"/*; do
-        "${tool[@]}" "target/bin/$1" < "$sheet" > "$folder/said" 2> "$folder/report" || {
+        "${tool[@]}" "crates/$1/out/$1" < "$sheet" > "$folder/said" 2> "$folder/report" || {
             errors=$((errors + 1))
             cat "$folder/report"
         }

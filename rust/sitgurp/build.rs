@@ -1,5 +1,5 @@
-//! Links the static library of the proved crates: `libcapi.a`, as `rt staticlib capi` writes it in the repository, or `libsitgurp.a`, as
-//! `./install` puts it in place. The folder is `SITGURP_LIB_DIR` where that is set, and the repository's `target/staticlib` otherwise.
+//! Links the static library of the proved crates: `libcapi.a`, as `rt lib` writes it in the repository's crates/capi, or `libsitgurp.a`, as
+//! `./install` puts it in place. The folder is `SITGURP_LIB_DIR` where that is set, and the repository's `crates/capi/out` otherwise.
 
 use std::path::{Path, PathBuf};
 use std::process::exit;
@@ -9,7 +9,7 @@ const FOLDER: &str = "SITGURP_LIB_DIR";
 fn main() {
     println!("cargo:rerun-if-env-changed={FOLDER}");
     let given = std::env::var_os(FOLDER).map(PathBuf::from);
-    let own = Path::new(env!("CARGO_MANIFEST_DIR")).join("../../target/staticlib");
+    let own = Path::new(env!("CARGO_MANIFEST_DIR")).join("../../crates/capi/out");
     let folder = given.clone().unwrap_or(own);
     for name in ["sitgurp", "capi"] {
         let archive = folder.join(format!("lib{name}.a"));
@@ -23,7 +23,7 @@ fn main() {
     }
     match given {
         Some(folder) => eprintln!("{FOLDER} is {}, which has no libsitgurp.a", folder.display()),
-        None => eprintln!("the proved library is missing: run `rt staticlib capi` in the repository, or set {FOLDER} to the folder of libsitgurp.a"),
+        None => eprintln!("the proved library is missing: run `rt lib` in crates/capi, or set {FOLDER} to the folder of libsitgurp.a"),
     }
     exit(1);
 }

@@ -1,56 +1,77 @@
-# The Rattle kit: where its compiler is, and a copy of it that keeps the LLVM module of what it compiles.
+# The Rattle kit: where its compiler is, and how the static library is built so that its LLVM module is kept too. `here` is the repository, whose
+# rust/command/build.sh has been read.
 
-# Prints the kit's folder: RATTLE_HOME, or the folder above the one of `rt`.
+# Prints the kit's folder, the one above that of `rt`.
 kit_home() {
     local rt
     rt=$(readlink -f "$(command -v rt)") || { echo 'the command rt is not found' >&2; return 2; }
-    (cd "${RATTLE_HOME:-$(dirname "$rt")/..}" && pwd -P)
+    (cd "$(dirname "$rt")/.." && pwd -P)
 }
 
 # Prints the kit's clang, which also links WebAssembly if it is called wasm-ld.
 kit_clang() {
-    readlink -f "$(kit_home)/on/$(uname -m)/toolchain/bin/clang"
+    readlink -f "$(kit_home)/toolchain/bin/clang"
 }
 
-# Links every entry of the first folder, but the one named last, into the second folder.
-link_all_but() {
-    local entry
-    mkdir -p "$2"
-    for entry in "$1"/*; do
-        [ ! -e "$entry" ] || [ "${entry##*/}" = "$3" ] || ln -s "$entry" "$2/"
-    done
+# Prints the words by which the kit has clang leave out what compiles some correct code wrongly: those that it gives for WebAssembly.
+kit_flags() {
+    printf '%s\n' -mllvm -expand-div-rem-bits=64 -mllvm -expand-fp-convert-bits=64 -ffunction-sections -fdata-sections -mllvm -trap-unreachable \
+        -mllvm -no-x86-call-frame-opt -mllvm -disable-machine-licm -mllvm -disable-postra-machine-licm -mllvm -sink-common-insts=false
 }
 
-# Makes the folder $1 a kit of links to the kit. Its clang copies the LLVM module that it is given to $2, and is otherwise the kit's.
-kit_that_saves() {
-    local home machine below tools
-    home=$(kit_home)
-    machine=$(uname -m)
-    below=on/$machine
-    tools=$below/toolchain
+# Makes the folder $1 a toolchain of links to the kit's. Its clang copies the LLVM module that it is given to $2, and is otherwise the kit's.
+toolchain_that_saves() {
+    local tools entry
+    tools=$(kit_home)/toolchain
     rm -rf "$1"
-    link_all_but "$home" "$1" on
-    link_all_but "$home/$below" "$1/$below" toolchain
-    link_all_but "$home/$tools" "$1/$tools" bin
-    link_all_but "$home/$tools/bin" "$1/$tools/bin" clang
-    cat > "$1/$tools/bin/clang" <<.
+    mkdir -p "$1/bin"
+    ln -s "$tools/lib" "$1/lib"
+    for entry in "$tools"/bin/*; do
+        [ "${entry##*/}" = clang ] || ln -s "$entry" "$1/bin/"
+    done
+    cat > "$1/bin/clang" <<.
 #!/bin/sh
 for word; do
     case \$word in *.bc) cp "\$word" '$2' ;; esac
 done
-exec '$home/$tools/bin/clang' "\$@"
+exec '$tools/bin/clang' "\$@"
 .
-    chmod +x "$1/$tools/bin/clang"
+    chmod +x "$1/bin/clang"
 }
 
-# Writes the library's LLVM module, target/web/module.bc, if it is missing or older than the crates. `rt staticlib capi` hands it to clang on the way to
-# the static library, which is written again too. `here` is the repository, whose rust/command/build.sh has been read.
-llvm_module() {
-    local module=$here/target/web/module.bc kit=$here/target/web/kit
-    is_old "$module" || return 0
-    prove capi 'the library'
+# Proves capi over the libraries in crates/*/out, and builds the static library by the toolchain $1. `rt lib` calls the compiler so too, but with the kit's
+# toolchain alone.
+static_library() {
+    local kit name words=()
+    kit=$(kit_home)
+    for name in $(sed -n 's/^capi staticlib://p' "$here/crates.txt"); do
+        words+=(--extern "$name=$here/crates/$name/out/rlib/$name.rlib")
+    done
+    for name in $(crates_under capi); do
+        words+=(-L "dependency=$here/crates/$name/out/rlib")
+    done
+    mkdir -p "$here/crates/capi/out" "$here/target"
+    (cd "$here/crates/capi" && in_memory "$kit/bin/rattle" build --crate-name capi src/lib.rt --extern "std=$kit/rlibs/std.rlib" \
+        -L "dependency=$kit/rlibs" "${words[@]}" --antt-project "$kit/rattle/logic/antt-project.json" --logic-built "$kit/logic_built" --jobs 2 \
+        --links capi= --crate-type staticlib --toolchain "$1" --backend llvm --incremental out/incremental -o "$archive") > "$here/target/run.log" 2>&1
+}
+
+# Writes the static library and its LLVM module, target/web/module.bc, over the libraries in crates/*/out.
+archive_and_module() {
+    local module=$here/target/web/module.bc tools=$here/target/web/toolchain
     mkdir -p "$here/target/web"
-    kit_that_saves "$kit" "$module"
-    (cd "$here" && RATTLE_HOME=$kit in_memory rt staticlib capi) > "$here/target/run.log" 2>&1 || failed staticlib capi
-    [ -f "$module" ] || { echo 'rt staticlib capi gave clang no LLVM module (*.bc)' >&2; exit 2; }
+    rm -f "$module"
+    toolchain_that_saves "$tools" "$module"
+    static_library "$tools" || failed 'rattle build of crates/capi'
+    rm -r "$tools"
+    [ -f "$module" ] || { echo 'rattle build gave clang no LLVM module (*.bc)' >&2; exit 2; }
+}
+
+# Writes both if one is missing or older than the crates, once these are proved.
+library_and_module() {
+    ! is_old "$archive" || rm -f "$here/target/web/module.bc"
+    if is_old "$here/target/web/module.bc"; then
+        prove
+        archive_and_module
+    fi
 }

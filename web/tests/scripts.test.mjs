@@ -32,10 +32,21 @@ test('text that depends on the length of a pointer is refused', () => {
     '  %r4 = getelementptr { ptr, ptr }, ptr %r2, i32 0, i32 1': 1,
     '  %r5 = alloca { ptr, i64 }, align 8': 1,
     '  %r5 = ptrtoint ptr %r2 to i64': 1,
+    '  %r5 = ptrtoaddr ptr %r2 to i64': 0,
+    '  %r5 = ptrtoaddr ptr %r1 to i64': 1,
+    '  %r5 = ptrtoaddr ptr %r2 to i32': 1,
     '  call void asm "nop", ""()': 1,
   };
   for (const [line, status] of Object.entries(lines)) assert.equal(awk('layout.awk', [], `${good}${line}\n}\n`).status, status, line);
   assert.equal(awk('layout.awk', [], '').status, 1);
+});
+
+test('an address becomes a number of 64 bits from a pointer of 4 bytes', () => {
+  const text = 'target triple = "x86_64"\n  %r5 = ptrtoaddr ptr %a0 to i64\n  ret void\nattributes #0 = { nounwind "target-cpu"="x86-64-v2" }\n';
+  const narrowed = awk('narrow.awk', [], text);
+  const due = '  %r5.short = ptrtoaddr ptr %a0 to i32\n  %r5 = zext i32 %r5.short to i64\n  ret void\nattributes #0 = { nounwind }\n';
+  assert.deepEqual([narrowed.status, narrowed.stdout], [0, due]);
+  assert.equal(awk('narrow.awk', [], '  %r5 = ptrtoaddr ptr %a0 to i32\n').status, 1);
 });
 
 // Inlines modules that are given by their names.

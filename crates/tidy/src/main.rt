@@ -1,13 +1,18 @@
 // Tidies the loose table sheet on standard input. Prints what `programs::output::tidy_output` returns.
 #![tactic(auto)]
 
-use libc::{STDIN_FILENO, STDOUT_FILENO};
+use programs::input::front;
+use radix::limits;
+use std::io;
+use std::io::prelude::*;
 
-fn main() {
-    let mut sheet = io::large_buffer();
-    let length = io::read_full(STDIN_FILENO, &mut sheet);
-    let printed = programs::output::tidy_output(&sheet[..length]);
+fn main(rt: HostRuntime) -> io::Result<()> {
+    let mut sheet = [0u8; limits::MOST_READ];
+    let mut rest = &mut sheet[..];
+    let mut input = rt.stdin().take(limits::MOST_READ as u64);
+    let length = io::copy(&mut input, &mut rest)? as usize;
+    let printed = programs::output::tidy_output(front(&sheet, length));
     let bytes = printed.bytes;
     let end = printed.length;
-    io::write_all(STDOUT_FILENO, &bytes[..end]);
+    rt.stdout().write_all(&bytes[..end])
 }

@@ -340,6 +340,6 @@ fn the_rust_crate_takes_a_folder() {
     assert_eq!(missing.status.code(), Some(1));
     assert_eq!(
         text(&missing.stderr),
-        "the proved library is missing: run `rt staticlib capi` in the repository, or set SITGURP_LIB_DIR to the folder of libsitgurp.a\n"
+        "the proved library is missing: run `rt lib` in crates/capi, or set SITGURP_LIB_DIR to the folder of libsitgurp.a\n"
     );
 }

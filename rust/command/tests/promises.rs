@@ -60,14 +60,20 @@ fn paths(cell: &str) -> Vec<&str> {
         .collect()
 }
 
-/// Returns the file that a path names: a specification, or code if it ends in `.rt`.
-fn file(path: &str) -> PathBuf {
+/// Returns the files that a path names: code if it ends in `.rt`, or else a specification and the theorems of the same name in proofs/. One of these two may
+/// be missing; if both are, the first is returned.
+fn files(path: &str) -> Vec<PathBuf> {
     let (name, rest) = path.split_once('/').unwrap_or((path, ""));
     let folder = repository().join("crates").join(name);
     if rest.ends_with(".rt") {
-        folder.join("src").join(rest)
-    } else {
-        folder.join("specs").join(format!("{rest}.antt"))
+        return vec![folder.join("src").join(rest)];
+    }
+    let of = |part: &str| folder.join(part).join(format!("{rest}.antt"));
+    let found: Vec<PathBuf> = ["specs", "proofs"].map(of).into();
+    let there: Vec<PathBuf> = found.iter().filter(|f| f.is_file()).cloned().collect();
+    match there.is_empty() {
+        true => found[..1].to_vec(),
+        false => there,
     }
 }
 
@@ -102,7 +108,7 @@ fn faults(row: &Row, read: &mut Words) -> Vec<String> {
         return vec![format!("line {}: {} cells", row.line, row.cells.len())];
     };
     let mut faults = Vec::new();
-    let files: Vec<PathBuf> = paths(places).into_iter().map(file).collect();
+    let files: Vec<PathBuf> = paths(places).into_iter().flat_map(files).collect();
     for missing in files.iter().filter(|file| !file.is_file()) {
         faults.push(format!("line {}: no file {}", row.line, missing.display()));
     }
@@ -114,7 +120,7 @@ fn faults(row: &Row, read: &mut Words) -> Vec<String> {
     };
     for name in quoted(names) {
         let found = match name {
-            ".exit" => true,
+            ".new" => true,
             _ if name.contains('/') => is_edit(name),
             _ => is_known(name),
         };
@@ -147,7 +153,7 @@ pub fn lost_paths(document: &str) -> Vec<String> {
     let mut lost = Vec::new();
     for (number, line) in paragraph_lines(document) {
         let words = line.split(|c: char| !(c.is_ascii_alphanumeric() || c == '/' || c == '_'));
-        for word in words.filter(|word| is_path(word) && !file(word).is_file()) {
+        for word in words.filter(|word| is_path(word) && !files(word)[0].is_file()) {
             lost.push(format!("line {number}: no file {word}"));
         }
     }
@@ -205,21 +211,21 @@ fn a_name_that_is_nowhere_is_found() {
     let fault_count = |row: &str| faults(&rows(row)[0], &mut Words::new()).len();
     let row = |names: &str, places: &str| format!("| a sentence | {names} | {places} |");
     assert_eq!(
-        fault_count(&row("`make-refuses`", "demands/Settling/Makes")),
+        fault_count(&row("`make_refuses`", "demands/Settling/Makes")),
         0
     );
     assert_eq!(
-        fault_count(&row("`make-refuse`", "demands/Settling/Makes")),
+        fault_count(&row("`make_refuse`", "demands/Settling/Makes")),
         1
     );
-    assert_eq!(fault_count(&row("`make-refuses`", "demands/Makes")), 2);
+    assert_eq!(fault_count(&row("`make_refuses`", "demands/Makes")), 2);
     assert_eq!(fault_count(&row("`rules/ten_at_m`", "")), 0);
     assert_eq!(fault_count(&row("`rules/ten_at_n`", "")), 1);
     assert_eq!(
         lost_paths("see rules/Calls/Settling and rules/Settling").len(),
         1
     );
-    assert_eq!(lost_names("`settleCall` and `settleCalls`").len(), 1);
+    assert_eq!(lost_names("`settle_call` and `settle_calls`").len(), 1);
 }
 
 #[test]
@@ -233,7 +239,7 @@ fn every_crate_is_in_the_table_of_crates() {
         .collect();
     let crates = fs::read_to_string(repository().join("crates.txt")).expect("the crates");
     for line in crates.lines().filter(|line| !line.starts_with('#')) {
-        let name = line.split(':').next().expect("a name");
+        let name = line.split([':', ' ']).next().expect("a name");
         assert!(
             listed.contains(name),
             "{name} is not in the table of docs/ARCHITECTURE.md"

@@ -2,12 +2,14 @@
 
 use crate::common::{repository, Folder};
 use std::fs;
+use std::ops::Deref;
 use std::path::Path;
 use std::process::{Command, Output};
 
-const RT: &str = "#!/bin/sh\necho \"$* ${RT_JOBS:-}\" >> asked\necho 'rt: rules proved (3 s)'\necho 'fn x: proved'\necho 'rt: laws proved (2 s)' >&2\n\
-                  mkdir -p target/staticlib && : > target/staticlib/libcapi.a\necho 'rt: target/staticlib/libcapi.a has the functions of capi'\n";
-const BAD_RT: &str = "#!/bin/sh\necho 'rt: rules proved (3 s)'\necho 'error: not proved'\nexit 1\n";
+const RT: &str = "#!/bin/sh\nfolder=${PWD##*/}\necho \"$*\" >> \"${0%/bin/rt}/asked\"\n\
+                  [ \"$1\" != all ] || printf '== rules\\nfn x: proved\\n== laws\\n== capi\\n== summary\\nrules: ok\\n3 of 3 crates ok\\n'\n\
+                  [ \"$1 $folder\" != 'lib capi' ] || { mkdir -p out && : > out/libcapi.a; }\n";
+const BAD_RT: &str = "#!/bin/sh\necho '== rules'\necho 'error: not proved'\nexit 1\n";
 const CARGO: &str = "#!/bin/sh\nmkdir -p target/release\n\
                      printf '#!/bin/sh\\necho \"$SITGURP_AS: $*${SITGURP_PAGE:+ in ${SITGURP_PAGE##*/}}\"\\n' > target/release/sitgurp\n\
                      chmod +x target/release/sitgurp\n";
@@ -15,10 +17,33 @@ const CARGO: &str = "#!/bin/sh\nmkdir -p target/release\n\
 const WEB_BUILD: &str =
     "#!/bin/sh\nmkdir -p target/web\n: > target/web/sitgurp.html\necho the page is built\n";
 
+/// A folder outside the repository, since `rt ci` wants one crates.txt there alone. It goes with its value.
+struct Scripts {
+    folder: Folder,
+}
+
+impl Drop for Scripts {
+    fn drop(&mut self) {
+        fs::remove_dir_all(&self.folder.0).ok();
+    }
+}
+
+impl Deref for Scripts {
+    type Target = Folder;
+
+    fn deref(&self) -> &Folder {
+        &self.folder
+    }
+}
+
 /// A repository of scripts alone, with programs of its own in `bin`.
-fn scripts(name: &str, rt: &str) -> Folder {
-    let folder = Folder::new(name);
-    for part in ["crates", "rust/command", "web", "bin", "examples"] {
+fn scripts(name: &str, rt: &str) -> Scripts {
+    let path = std::env::temp_dir().join(format!("sitgurp_{name}_{}", std::process::id()));
+    fs::create_dir_all(&path).expect("a folder");
+    let folder = Scripts {
+        folder: Folder(path),
+    };
+    for part in ["crates/capi", "rust/command", "web", "bin", "examples"] {
         fs::create_dir_all(folder.0.join(part)).expect("a folder");
     }
     for file in ["run", "rust/command/build.sh"] {
@@ -27,7 +52,7 @@ fn scripts(name: &str, rt: &str) -> Folder {
     folder
         .put(
             "crates.txt",
-            "# names\nrules:\nlaws: rules\nother: rules\ncapi: laws\n",
+            "# names\nrules:\nlaws: rules\ncapi staticlib: laws\n",
         )
         .put("bin/rt", rt)
         .put("web/build", WEB_BUILD)
@@ -78,9 +103,9 @@ fn the_first_run_counts_the_crates() {
         "proving the library: once, some minutes, up to 3 crates at once\ncrate 1 of 3: rules\ncrate 2 of 3: laws\ncrate 3 of 3: capi\n\
         building the command: once\n"
     );
-    // several crates are proved at once; the archive is made afterwards
+    // several crates are proved at once, and all of them; the archive is made afterwards
     let asked = fs::read_to_string(folder.0.join("asked")).expect("what rt was asked");
-    assert_eq!(asked, "check rules laws 3\nstaticlib capi 3\n");
+    assert_eq!(asked, "all check --jobs 3\nlib\n");
     let example = fs::canonicalize(&folder.0)
         .expect("the folder")
         .join("examples/seven.table");
@@ -139,7 +164,7 @@ fn what_is_not_proved_is_told() {
     assert_eq!((status, out.as_str()), (Some(2), ""));
     assert!(
         err.contains("crate 1 of 3: rules\n")
-            && err.contains("\nerror: not proved\nrt check capi has failed; "),
+            && err.contains("\nerror: not proved\nrt all check has failed; "),
         "{err}"
     );
 }
@@ -177,15 +202,15 @@ fn cores_and_memory_choose_how_many_crates_are_proved_at_once() {
 }
 
 #[test]
-fn no_more_edits_are_tried_at_once_than_there_are_cores() {
-    let ended = after_build_script("unset RT_JOBS; nproc; parallel_edits", None);
+fn no_more_crates_are_proved_at_once_than_there_are_cores() {
+    let ended = after_build_script("unset RT_JOBS; nproc; parallel_crates", None);
     let said = String::from_utf8_lossy(&ended.stdout).into_owned();
     let numbers: Vec<usize> = said.lines().map(|line| line.parse().unwrap()).collect();
     assert!(
         numbers.len() == 2 && (1..=numbers[0]).contains(&numbers[1]),
         "{said}"
     );
-    let ended = after_build_script("RT_JOBS=9; parallel_edits", None);
+    let ended = after_build_script("RT_JOBS=9; parallel_crates", None);
     assert_eq!(String::from_utf8_lossy(&ended.stdout).trim(), "9");
 }
 

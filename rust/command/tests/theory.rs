@@ -162,9 +162,9 @@ fn the_audit_shows_what_the_count_prints() {
         audit.contains(&shown),
         "docs/AUDIT.md should show:\n{shown}"
     );
-    let one = counted("make-refuses");
+    let one = counted("make_refuses");
     let demand = counted(
-        "settles settled-accepted settled-own-lines settled-own-table settled-alike make-refuses make-either makes make-as-settle",
+        "settles settled_accepted settled_own_lines settled_own_table settled_alike make_refuses make_either makes make_as_settle",
     );
     for sentence in [
         format!("**{} lines**", believed(&printed)),

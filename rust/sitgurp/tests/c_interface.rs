@@ -36,7 +36,7 @@ fn strict_cc(source: &str) -> Command {
 fn runs_well(name: &str) {
     let program = Path::new(env!("CARGO_TARGET_TMPDIR")).join(name);
     let mut cc = strict_cc(&format!("tests/c/{name}.c"));
-    cc.arg(repository().join("target/staticlib/libcapi.a"))
+    cc.arg(repository().join("crates/capi/out/libcapi.a"))
         .arg("-o")
         .arg(&program);
     assert_ends_well(&run(&mut cc));

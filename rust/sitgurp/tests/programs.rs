@@ -11,7 +11,9 @@ const SEED: u64 = 512;
 
 fn program(name: &str) -> PathBuf {
     Path::new(env!("CARGO_MANIFEST_DIR"))
-        .join("../../target/bin")
+        .join("../../crates")
+        .join(name)
+        .join("out")
         .join(name)
 }
 
@@ -22,7 +24,7 @@ fn printed(program: &str, input: &[u8]) -> Vec<u8> {
         .stdin(Stdio::piped())
         .stdout(Stdio::piped())
         .spawn()
-        .unwrap_or_else(|fault| panic!("{}: {fault}; `rt check` builds it", path.display()));
+        .unwrap_or_else(|fault| panic!("{}: {fault}; `rt run` builds it", path.display()));
     let mut stdin = child.stdin.take().expect("a pipe");
     let (front, back) = input.split_at(input.len() / 3);
     // past its first 65,536 bytes the program does not read, and the pipe may close

@@ -39,6 +39,33 @@ fn defined(line: &str) -> Option<String> {
     (modifiers && !name.is_empty()).then_some(name)
 }
 
+/// Returns the names that a `use` line brings in, each with its path: `a::b`, `a::b as c`, or `a::{b, c as d}`.
+fn imported(krate: &str, target: &str) -> Vec<(String, Vec<String>)> {
+    let (front, names) = match target.split_once("::{") {
+        Some((front, rest)) => (front, rest.trim_end_matches('}')),
+        None => ("", target),
+    };
+    let one = |name: &str| {
+        let (name, alias) = name.split_once(" as ").unwrap_or((name, ""));
+        let words = front.split("::").chain(name.split("::"));
+        let mut full: Vec<String> = words
+            .filter(|word| !word.is_empty() && *word != "self")
+            .map(str::to_string)
+            .collect();
+        if full[0] == "crate" {
+            full[0] = krate.to_string();
+        }
+        let last = full[full.len() - 1].clone();
+        let name = if alias.is_empty() {
+            last
+        } else {
+            alias.to_string()
+        };
+        (name, full)
+    };
+    names.split(',').map(|name| one(name.trim())).collect()
+}
+
 fn read_module(krate: &str, root: &Path, file: &Path) -> Module {
     let text = fs::read_to_string(file).unwrap_or_default();
     let inner = file.strip_prefix(root).unwrap_or(file).with_extension("");
@@ -60,17 +87,9 @@ fn read_module(krate: &str, root: &Path, file: &Path) -> Module {
             .strip_prefix("use ")
             .and_then(|rest| rest.strip_suffix(';'))
         {
-            let (target, alias) = target.split_once(" as ").unwrap_or((target, ""));
-            let mut full: Vec<String> = target.split("::").map(str::to_string).collect();
-            if full[0] == "crate" {
-                full[0] = krate.to_string();
+            for (name, full) in imported(krate, target) {
+                module.imports.insert(name, full);
             }
-            let name = if alias.is_empty() {
-                full[full.len() - 1].clone()
-            } else {
-                alias.to_string()
-            };
-            module.imports.insert(name, full);
         } else if let Some(name) = defined(line) {
             module.functions.insert(name.clone(), String::new());
             current = Some(name);
