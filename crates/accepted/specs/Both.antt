@@ -1,6 +1,7 @@
 -- The two sheets of a call, a net sheet and a table sheet: which one is refused and why, or the net and the table under one header.
 -- Assumes nothing.
-use Rattle.laws.specs.Prelude.{ℕ, ◌≤◌, ◌-◌, ◌^◌, ◌≡◌, ◌∙◌, sym, ap, refl, true, false, Bool, not, List, arith, length, take, length-take, not-true, not-false}
+use Rattle.std.specs.Prelude.{◌≤◌, ◌-◌, ◌^◌, ◌≡◌}
+use Rattle.laws.specs.Prelude.{ℕ, ◌∙◌, sym, ap, refl, true, false, Bool, not, List, arith, length, take, length-take, not-true, not-false}
 use Rattle.rules.specs.Sheets.Sheets as sheets
 use Rattle.rules.specs.Sheets.Sheets.{Table}
 use Rattle.rules.specs.Sheets.SheetRules.{TableRules}

@@ -1,6 +1,7 @@
 -- A sheet that was read, by value: its refusal, or its parts and what the calls on them require.
 -- Assumes nothing.
-use Rattle.laws.specs.Prelude.{ℕ, ◌<◌, ◌≤◌, ◌-◌, ◌^◌, ◌≡◌, ◌∙◌, sym, ap, ap₂, subst⁻¹, List, sub-zero, one-le-pow, arith, length, take}
+use Rattle.std.specs.Prelude.{◌<◌, ◌≤◌, ◌-◌, ◌^◌, ◌≡◌}
+use Rattle.laws.specs.Prelude.{ℕ, ◌∙◌, sym, ap, ap₂, subst⁻¹, List, sub-zero, one-le-pow, arith, length, take}
 use Rattle.rules.specs.Limits.{most_cells}
 use Rattle.rules.specs.Sheets.Sheets.{Gate}
 use Rattle.rules.specs.Sheets.SheetRules.{NetRules, TableRules, FullTable, IsNet}

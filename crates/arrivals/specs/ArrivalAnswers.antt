@@ -1,6 +1,7 @@
 -- The meaning of the call's answer in the definitions: its number and values in each case. And the answer as a function of what was read.
 -- Assumes nothing.
-use Rattle.laws.specs.Prelude.{ℕ, ◌≡◌, ◌∙◌, sym, ap, subst, List, map, length}
+use Rattle.std.specs.Prelude.{◌≡◌}
+use Rattle.laws.specs.Prelude.{ℕ, ◌∙◌, sym, ap, subst, List, map, length}
 use Rattle.rules.specs.Calls.Answers.{accepted}
 use Rattle.rules.specs.Sheets.ArrivalSheet.{Arrival, earliest_of, latest_of, read_arrivals}
 use Rattle.rules.specs.Nets.Arrivals as rules

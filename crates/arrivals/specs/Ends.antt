@@ -1,7 +1,7 @@
 -- The meaning of an arrival and of two ends in f64: exact quarters of a microsecond.
 -- Assumes nothing.
-use Rattle.laws.specs.Prelude.{ℕ, ◌<◌, ◌+◌, max, ◌≡◌, refl, ap₂}
-use Rattle.std.specs.Prelude.{Float}
+use Rattle.laws.specs.Prelude.{ℕ, max, refl, ap₂}
+use Rattle.std.specs.Prelude.{Float, ◌<◌, ◌+◌, ◌≡◌}
 use Rattle.std.specs.Float.{binary64}
 use Rattle.std.specs.Float.Ieee.{add}
 use Rattle.rules.specs.Sheets.ArrivalSheet as sheet

@@ -1,9 +1,9 @@
 -- The ends of the wires, one after the other: those of the inputs, and gate by gate.
 -- Assumes nothing.
-use Rattle.laws.specs.Prelude.{ℕ, ◌<◌, ◌≤◌, ◌+◌, ◌-◌, ◌*◌, max, ◌≡◌, ◌∙◌, sym, ap, refl, ap₂, List, [], ◌∷◌, ◌++◌, map, map-map, zero-add, mul-le-mul}
+use Rattle.laws.specs.Prelude.{ℕ, max, ◌∙◌, sym, ap, refl, ap₂, List, [], map, map-map, zero-add, mul-le-mul}
 use Rattle.laws.specs.Prelude.{add-one, dec_lt, ℕ_discrete, arith, length, get_or, set, length-set, get_or-append, get_or-eq_default, get_or-set_same}
 use Rattle.laws.specs.Prelude.{get_or-set_other, get_or_at}
-use Rattle.std.specs.Prelude.{Float}
+use Rattle.std.specs.Prelude.{Float, ◌<◌, ◌≤◌, ◌+◌, ◌-◌, ◌*◌, ◌≡◌, ◌∷◌, ◌++◌}
 use Rattle.rules.specs.Lists.{range, with_each}
 use Rattle.rules.specs.Limits.{most_inputs, most_time, most_delay}
 use Rattle.rules.specs.Sheets.ArrivalSheet.{Arrival, arrival_of, earliest_of, latest_of}

@@ -1,6 +1,7 @@
 -- A verdict as four numbers, and the cells buffer.
 -- Assumes nothing.
-use Rattle.laws.specs.Prelude.{ℕ, ◌≡◌, List}
+use Rattle.std.specs.Prelude.{◌≡◌}
+use Rattle.laws.specs.Prelude.{ℕ, List}
 use Rattle.rules.specs.Calls.Checking.{Checked}
 use Rattle.capi.specs.declared.numbers.verdict.SitgurpVerdict.{SitgurpVerdict}
 use Rattle.capi.specs.Numbers.Verdict.{flat_verdict}

@@ -1,6 +1,7 @@
 -- What the count of a table's trees answers as two numbers, and its two buffers.
 -- Assumes nothing.
-use Rattle.laws.specs.Prelude.{ℕ, ◌≡◌, ◌∙◌, ap, List}
+use Rattle.std.specs.Prelude.{◌≡◌}
+use Rattle.laws.specs.Prelude.{ℕ, ◌∙◌, ap, List}
 use Rattle.rules.specs.Calls.Answers.{Answer}
 use Rattle.rules.specs.Calls.FamilyCalls.{Counted}
 use Rattle.capi.specs.declared.numbers.flat.SitgurpAnswer.{SitgurpAnswer}

@@ -2,7 +2,8 @@
 -- changed are the job after these moves.
 -- `marks_passed` and `marks_ahead` in demands/Jobs say what the marks of such a job are.
 -- Assumes nothing.
-use Rattle.laws.specs.Prelude.{ℕ, ◌≡◌, ◌∙◌, sym, ap, List, [], ◌∷◌, ◌++◌}
+use Rattle.std.specs.Prelude.{◌≡◌, ◌∷◌, ◌++◌}
+use Rattle.laws.specs.Prelude.{ℕ, ◌∙◌, sym, ap, List, []}
 use Rattle.rules.specs.Calls.Jobs.{Job, open_job, step_job, ask_job, Move, step, ask, moved, after_moves}
 use Rattle.jobs.specs.Forms.{job_in}
 use Rattle.jobs.specs.Reached.{after_last}

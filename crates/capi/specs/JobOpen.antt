@@ -1,6 +1,7 @@
 -- Opening a job as the call for C returns it: two numbers, and every byte of the job.
 -- Assumes nothing.
-use Rattle.laws.specs.Prelude.{ℕ, ◌≡◌, ◌∙◌, ap, List}
+use Rattle.std.specs.Prelude.{◌≡◌}
+use Rattle.laws.specs.Prelude.{ℕ, ◌∙◌, ap, List}
 use Rattle.rules.specs.Calls.Jobs.{open_job}
 use Rattle.jobs.specs.declared.job.Job.{Job}
 use Rattle.jobs.specs.declared.job.Opened.{Opened}

@@ -1,6 +1,7 @@
 -- A step of a job as the call for C returns it: two numbers, the marks and how many groups have been passed.
 -- Assumes nothing.
-use Rattle.laws.specs.Prelude.{ℕ, ◌<◌, ◌+◌, ◌≡◌, ◌∙◌, sym, ap, List, set}
+use Rattle.std.specs.Prelude.{◌<◌, ◌+◌, ◌≡◌}
+use Rattle.laws.specs.Prelude.{ℕ, ◌∙◌, sym, ap, List, set}
 use Rattle.rules.specs.Calls.Answers.{written}
 use Rattle.rules.specs.Calls.Jobs.{Job, further, Stepped, step_job}
 use Rattle.laws.specs.Calls.Jobs.{step_done, step_on}

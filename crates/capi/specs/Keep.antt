@@ -1,6 +1,7 @@
 -- What keeping a wiring answers, as four numbers, and its two buffers.
 -- Assumes nothing.
-use Rattle.laws.specs.Prelude.{ℕ, ◌≡◌, List}
+use Rattle.std.specs.Prelude.{◌≡◌}
+use Rattle.laws.specs.Prelude.{ℕ, List}
 use Rattle.rules.specs.Calls.Keeping.{KeptWiring}
 use Rattle.capi.specs.declared.numbers.kept.SitgurpKept.{SitgurpKept}
 use Rattle.capi.specs.Numbers.Kept.{flat_kept}

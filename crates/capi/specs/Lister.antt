@@ -1,7 +1,8 @@
 -- A gate lister whose caller keeps the position: `sitgurp_lister_open` returns the first, `sitgurp_lister_next` the line at a position and the next
 -- position. Followed from the first position, turn k is turn k of `listing`, which is what `sitgurp_gate_line` returns.
 -- Assumes nothing.
-use Rattle.laws.specs.Prelude.{ℕ, ◌<◌, ◌≤◌, ◌+◌, ◌-◌, suc, zero, min, ◌≡◌, ◌∙◌, sym, ap, refl, List, add-one, arith, length, drop, lt-ltb, le-ltb}
+use Rattle.std.specs.Prelude.{◌<◌, ◌≤◌, ◌+◌, ◌-◌, ◌≡◌}
+use Rattle.laws.specs.Prelude.{ℕ, suc, zero, min, ◌∙◌, sym, ap, refl, List, add-one, arith, length, drop, lt-ltb, le-ltb}
 use Rattle.rules.specs.Sheets.Sheets.{Net}
 use Rattle.rules.specs.Calls.Answers.{Answer, accepted, refused, onward}
 use Rattle.rules.specs.Sheets.Reading.{read_net}

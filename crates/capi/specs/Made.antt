@@ -1,6 +1,7 @@
 -- What settling or making answers as two numbers, and its three buffers.
 -- Assumes nothing.
-use Rattle.laws.specs.Prelude.{ℕ, ◌≡◌, ◌∙◌, ap, List}
+use Rattle.std.specs.Prelude.{◌≡◌}
+use Rattle.laws.specs.Prelude.{ℕ, ◌∙◌, ap, List}
 use Rattle.rules.specs.Calls.Answers.{Answer}
 use Rattle.rules.specs.Calls.Settling.{Made}
 use Rattle.capi.specs.declared.numbers.flat.SitgurpAnswer.{SitgurpAnswer}

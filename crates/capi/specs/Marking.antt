@@ -1,6 +1,7 @@
 -- The marking call's answer as two numbers, and its buffer.
 -- Assumes nothing.
-use Rattle.laws.specs.Prelude.{ℕ, ◌≡◌, List}
+use Rattle.std.specs.Prelude.{◌≡◌}
+use Rattle.laws.specs.Prelude.{ℕ, List}
 use Rattle.rules.specs.Calls.Marking.{Marked}
 use Rattle.capi.specs.declared.numbers.flat.SitgurpAnswer.{SitgurpAnswer}
 use Rattle.capi.specs.Numbers.Flat.{flat_of}

@@ -1,6 +1,7 @@
 -- What tidying answers as two numbers, and its buffers.
 -- Assumes nothing.
-use Rattle.laws.specs.Prelude.{ℕ, ◌≡◌, List}
+use Rattle.std.specs.Prelude.{◌≡◌}
+use Rattle.laws.specs.Prelude.{ℕ, List}
 use Rattle.rules.specs.Calls.Tidying.{Tidied}
 use Rattle.capi.specs.declared.numbers.flat.SitgurpAnswer.{SitgurpAnswer}
 use Rattle.capi.specs.Numbers.Flat.{flat_of}

@@ -1,6 +1,7 @@
 -- The first cell that is at least a bound, and what it means for refusals 10 and 27.
 -- Assumes nothing.
-use Rattle.laws.specs.Prelude.{ℕ, ◌<◌, ◌≤◌, ◌+◌, ◌≡◌, ◌∙◌, sym, ap, true, false, Bool, not, List, dec_lt, arith, leb, length, get_or, le-leb, lt-leb}
+use Rattle.std.specs.Prelude.{◌<◌, ◌≤◌, ◌+◌, ◌≡◌}
+use Rattle.laws.specs.Prelude.{ℕ, ◌∙◌, sym, ap, true, false, Bool, not, List, dec_lt, arith, leb, length, get_or, le-leb, lt-leb}
 use Rattle.rules.specs.Lists.{first_place}
 use Rattle.rules.specs.Calls.Answers.{accepted, refused}
 use Rattle.rules.specs.Calls.OpenCells.{is_open_of, full}

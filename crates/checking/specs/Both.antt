@@ -1,6 +1,7 @@
 -- Checking two sheets: a refusal, the cells buffer, then the inks.
 -- Assumes nothing.
-use Rattle.laws.specs.Prelude.{ℕ, ◌<◌, ◌≤◌, ◌-◌, ◌^◌, ◌≡◌, ◌∙◌, sym, ap, refl, ap₂, subst⁻¹, true, List, arith, length, take}
+use Rattle.std.specs.Prelude.{◌<◌, ◌≤◌, ◌-◌, ◌^◌, ◌≡◌}
+use Rattle.laws.specs.Prelude.{ℕ, ◌∙◌, sym, ap, refl, ap₂, subst⁻¹, true, List, arith, length, take}
 use Rattle.rules.specs.Calls.Answers as answers
 use Rattle.rules.specs.Calls.Answers.{neither}
 use Rattle.rules.specs.Calls.Checking.{Checked, turned_down, same_header, checked_into, check_call}

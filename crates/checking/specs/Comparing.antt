@@ -1,6 +1,7 @@
 -- Two lists of inks compared, by the first index that differs.
 -- Assumes nothing.
-use Rattle.laws.specs.Prelude.{ℕ, ◌<◌, ◌≤◌, ◌≡◌, ◌∙◌, sym, ap, List, dec_lt, arith, length, get_or}
+use Rattle.std.specs.Prelude.{◌<◌, ◌≤◌, ◌≡◌}
+use Rattle.laws.specs.Prelude.{ℕ, ◌∙◌, sym, ap, List, dec_lt, arith, length, get_or}
 use Rattle.rules.specs.Calls.Checking.{Verdict, agree, differ, compared}
 use Rattle.net_sheets.specs.Text.Put.{Put, put_wrote}
 use Rattle.laws.specs.Calls.Checking.{AgreeAt, Compared, all_agree, first_differs, comparison}

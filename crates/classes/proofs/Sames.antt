@@ -1,6 +1,7 @@
 -- Places at which a test fails: four in a row, one more than before, and a search that begins after them.
 -- Assumes nothing.
-use Rattle.laws.specs.Prelude.{ℕ, ◌<◌, ◌≤◌, ◌+◌, ◌-◌, suc, zero, ◌≡◌, ◌∙◌, sym, ap, refl, false, Bool, add-one, dec_lt, ℕ_discrete, arith}
+use Rattle.std.specs.Prelude.{◌<◌, ◌≤◌, ◌+◌, ◌-◌, ◌≡◌}
+use Rattle.laws.specs.Prelude.{ℕ, suc, zero, ◌∙◌, sym, ap, refl, false, Bool, add-one, dec_lt, ℕ_discrete, arith}
 use Rattle.rules.specs.Lists.{range, find}
 use Rattle.laws.specs.Lists.Walks.{find_next}
 

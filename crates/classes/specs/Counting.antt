@@ -1,7 +1,8 @@
 -- A loop that keeps the first of each class until there are enough, over plain lists: the classes of what is kept and of the assignments not yet
 -- visited are the classes of all.
 -- Assumes nothing.
-use Rattle.laws.specs.Prelude.{ℕ, ◌<◌, ◌≤◌, ◌+◌, ◌≡◌, ◌∙◌, sym, ap, refl, ap₂, subst⁻¹, List, [], ◌∷◌, ◌++◌, add-one, ℕ_discrete, arith, length, get_or, take}
+use Rattle.std.specs.Prelude.{◌<◌, ◌≤◌, ◌+◌, ◌≡◌, ◌∷◌, ◌++◌}
+use Rattle.laws.specs.Prelude.{ℕ, ◌∙◌, sym, ap, refl, ap₂, subst⁻¹, List, [], add-one, ℕ_discrete, arith, length, get_or, take}
 use Rattle.laws.specs.Prelude.{drop, set, length-set, drop_of_length-le, length-take, get_or-set_same, get_or-set_other, length-take-le, take-suc-set, take_all}
 use Rattle.rules.specs.Lists.{first_place}
 use Rattle.rules.specs.Groups.Groups.{alike_over, firsts}

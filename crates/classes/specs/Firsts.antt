@@ -1,6 +1,7 @@
 -- The first of each class, found one assignment at a time.
 -- Assumes nothing.
-use Rattle.laws.specs.Prelude.{ℕ, ◌<◌, ◌≤◌, ◌+◌, ◌-◌, ◌^◌, suc, ◌≡◌, ◌∙◌, sym, ap, refl, subst, ap₂, true, false, Bool, List, [], ◌∷◌, ◌++◌, zero-add, le_trans}
+use Rattle.std.specs.Prelude.{◌<◌, ◌≤◌, ◌+◌, ◌-◌, ◌^◌, ◌≡◌, ◌∷◌, ◌++◌}
+use Rattle.laws.specs.Prelude.{ℕ, suc, ◌∙◌, sym, ap, refl, subst, ap₂, true, false, Bool, List, [], zero-add, le_trans}
 use Rattle.laws.specs.Prelude.{dec_lt, arith, ltb, length, get_or, take, length-append, length-take, length-take-le, get_or-take, take_at, take_all, take-take}
 use Rattle.laws.specs.Prelude.{take-length, lt-ltb, le-ltb}
 use Rattle.rules.specs.Lists.{any, first_place}

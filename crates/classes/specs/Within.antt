@@ -1,6 +1,7 @@
 -- An assignment of a group plus one of the other inputs is inside the cells.
 -- Assumes nothing.
-use Rattle.laws.specs.Prelude.{ℕ, ◌<◌, ◌≤◌, ◌+◌, ◌-◌, ◌^◌, ◌≡◌, List, le_trans, pow-le-pow_right, dec_lt, arith, length, get_or, take}
+use Rattle.std.specs.Prelude.{◌<◌, ◌≤◌, ◌+◌, ◌-◌, ◌^◌, ◌≡◌}
+use Rattle.laws.specs.Prelude.{ℕ, List, le_trans, pow-le-pow_right, dec_lt, arith, length, get_or, take}
 use Rattle.laws.specs.Prelude.{get_or-eq_default}
 use Rattle.rules.specs.Calls.Answers.{ink_in}
 use Rattle.cells.specs.Full.{FullCells}

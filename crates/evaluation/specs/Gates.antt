@@ -1,6 +1,7 @@
 -- One gate at many assignments: what is required, what is promised, and what a turn reads.
 -- Assumes nothing.
-use Rattle.laws.specs.Prelude.{ℕ, ◌<◌, ◌≤◌, ◌+◌, ◌*◌, ◌≡◌, List, arith, length, get_or, digits_lt}
+use Rattle.std.specs.Prelude.{◌<◌, ◌≤◌, ◌+◌, ◌*◌, ◌≡◌}
+use Rattle.laws.specs.Prelude.{ℕ, List, arith, length, get_or, digits_lt}
 use Rattle.evaluation.specs.Lists.Runs.{Run}
 
 -- the gate's digits are inside `digits`; the levels of its left and right are below m and come before `to`, where its values will go

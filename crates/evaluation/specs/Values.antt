@@ -1,6 +1,7 @@
 -- A net at many assignments: what is required, what is promised, and the step to the next gate.
 -- Assumes nothing.
-use Rattle.laws.specs.Prelude.{ℕ, ◌<◌, ◌≤◌, ◌+◌, ◌-◌, suc, ◌*◌, ◌≡◌, ◌∙◌, sym, ap, refl, ap₂, List, [], ◌∷◌, ◌++◌, map, zero-add, add-zero, zero-mul}
+use Rattle.std.specs.Prelude.{◌<◌, ◌≤◌, ◌+◌, ◌-◌, ◌*◌, ◌≡◌, ◌∷◌, ◌++◌}
+use Rattle.laws.specs.Prelude.{ℕ, suc, ◌∙◌, sym, ap, refl, ap₂, List, [], map, zero-add, add-zero, zero-mul}
 use Rattle.laws.specs.Prelude.{mul-le-mul_right, suc-mul, mul-le-mul, add_assoc, add-one, ℕ_discrete, arith, length, get_or, drop, set, length-set}
 use Rattle.laws.specs.Prelude.{get_or-set_same, get_or-set_other, get_or-take, get_or-drop, digits_lt}
 use Rattle.rules.specs.Lists.{range, with_each}

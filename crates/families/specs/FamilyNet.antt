@@ -1,6 +1,7 @@
 -- The net of a number, from its wiring.
 -- Assumes nothing.
-use Rattle.laws.specs.Prelude.{ℕ, ◌<◌, ◌^◌, ◌≡◌, ◌∙◌, subst⁻¹, true, List, arith}
+use Rattle.std.specs.Prelude.{◌<◌, ◌^◌, ◌≡◌}
+use Rattle.laws.specs.Prelude.{ℕ, ◌∙◌, subst⁻¹, true, List, arith}
 use Rattle.rules.specs.Limits.{size_fits}
 use Rattle.rules.specs.Groups.Marks.{marks_of}
 use Rattle.rules.specs.Nets.Wirings.{links_of}

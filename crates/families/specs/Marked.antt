@@ -1,6 +1,7 @@
 -- The cells and the marks of a table in their buffers, and the count of its trees.
 -- Assumes nothing.
-use Rattle.laws.specs.Prelude.{ℕ, ◌<◌, ◌≤◌, ◌-◌, ◌^◌, suc, zero, ◌≡◌, ◌∙◌, ap, refl, subst⁻¹, true, List, sub-zero, lt_of_lt_of_le, arith, length, get_or}
+use Rattle.std.specs.Prelude.{◌<◌, ◌≤◌, ◌-◌, ◌^◌, ◌≡◌}
+use Rattle.laws.specs.Prelude.{ℕ, suc, zero, ◌∙◌, ap, refl, subst⁻¹, true, List, sub-zero, lt_of_lt_of_le, arith, length, get_or}
 use Rattle.laws.specs.Prelude.{take, replicate, pow_mono}
 use Rattle.rules.specs.Limits.{most_inputs, size_fits}
 use Rattle.rules.specs.Groups.Marks.{marks_of, stored_marks}
@@ -27,11 +28,11 @@ pub groups_room : (m n : ℕ) → size_fits m n ≡ true → 2 ^ n ≤ 2 ^ most_
 groups_room m n fit = pow_mono {i = n} {j = most_inputs} (sized m n fit).inputs_most
 
 -- the count, and what is written
-pub record MarkedCount (m n : ℕ) (inks cells marks : List ℕ) (r : ℕ) (cells_then own Marks-then counts : List ℕ) : Type 0 where
+pub record MarkedCount (m n : ℕ) (inks cells marks : List ℕ) (r : ℕ) (cells_then own marks_then counts : List ℕ) : Type 0 where
   pub count : r ≡ tree_count n (marks_of m n (ink_in inks)) (leaves_of m n (ink_in inks))
   pub copied : cells_then ≡ written cells inks
   pub front : take (2 ^ n) own ≡ marks_of m n (ink_in inks)
-  pub marked : Marks-then ≡ written marks (stored_marks (marks_of m n (ink_in inks)))
+  pub marked : marks_then ≡ written marks (stored_marks (marks_of m n (ink_in inks)))
   pub kept : CountsKnown (marks_of m n (ink_in inks)) counts
 
 module _ (m n : ℕ) (fit : size_fits m n ≡ true) (f : ℕ → ℕ) where

@@ -1,6 +1,7 @@
 -- What the answers and buffers of the two calls represent, and their outcomes in the order of the code.
 -- Assumes nothing.
-use Rattle.laws.specs.Prelude.{ℕ, ◌<◌, ◌≤◌, ◌≡◌, ◌∙◌, sym, subst, List}
+use Rattle.std.specs.Prelude.{◌<◌, ◌≤◌, ◌≡◌}
+use Rattle.laws.specs.Prelude.{ℕ, ◌∙◌, sym, subst, List}
 use Rattle.rules.specs.Sheets.Printed.{printed_net}
 use Rattle.rules.specs.Groups.Marks.{marks_of}
 use Rattle.rules.specs.Calls.Answers.{accepted, refused, ink_in}
@@ -27,15 +28,15 @@ counted_of r cells marks = record { answer = answer_of r; cells = cells; marks =
 
 -- ---- once the cells and the marks are written
 
-module _ (s : List ℕ) (h : Header) (inks cells marks : List ℕ) (r : ℕ) (cells_then all_marks_lem Marks-then counts : List ℕ)
-    (did : MarkedCount h.levels h.inputs inks cells marks r cells_then all_marks_lem Marks-then counts) where
+module _ (s : List ℕ) (h : Header) (inks cells marks : List ℕ) (r : ℕ) (cells_then all_marks_lem marks_then counts : List ℕ)
+    (did : MarkedCount h.levels h.inputs inks cells marks r cells_then all_marks_lem marks_then counts) where
   counted_is : r ≡ count_of_table (table_in s h inks)
   unfolding count_of_table header_of
   counted_is = did.count
 
   -- the count
   pub count_given : room_for (table_in s h inks) cells marks ≡ accepted tt
-      → record { answer = accepted r; cells = cells_then; marks = Marks-then } ≡ counted_into (table_in s h inks) cells marks
+      → record { answer = accepted r; cells = cells_then; marks = marks_then } ≡ counted_into (table_in s h inks) cells marks
   unfolding header_of
   count_given room =
       (λ i. record { answer = accepted (counted_is i); cells = did.copied i; marks = did.marked i }) ∙ sym (counted_room (table_in s h inks) cells marks room)
@@ -43,7 +44,7 @@ module _ (s : List ℕ) (h : Header) (inks cells marks : List ℕ) (r : ℕ) (ce
   module _ (order : ℕ) (output : List ℕ) where
     -- refusal 17
     pub order_past : r ≤ order
-        → record { answer = refused 17 order; cells = cells_then; marks = Marks-then; output = output } ≡ after_count order (table_in s h inks) cells marks output
+        → record { answer = refused 17 order; cells = cells_then; marks = marks_then; output = output } ≡ after_count order (table_in s h inks) cells marks output
     unfolding header_of
     order_past past =
         (λ i. record { answer = refused 17 order; cells = did.copied i; marks = did.marked i; output = output })
@@ -58,10 +59,10 @@ module _ (s : List ℕ) (h : Header) (inks cells marks : List ℕ) (r : ℕ) (ce
 
       pub order_tree : (answer : Answer) (after : List ℕ)
           → ((own_cells own_marks : List ℕ) → made_of answer own_cells own_marks after ≡ written_sheet (printed_net (net_in s h net)) own_cells own_marks output)
-          → made_of answer cells_then Marks-then after ≡ after_count order (table_in s h inks) cells marks output
+          → made_of answer cells_then marks_then after ≡ after_count order (table_in s h inks) cells marks output
       unfolding header_of
       order_tree answer after wrote =
-          wrote cells_then Marks-then
+          wrote cells_then marks_then
           ∙ (λ i. written_sheet (printed_net (tree_is i)) (did.copied i) (did.marked i) output)
           ∙ sym (count_tree order (table_in s h inks) cells marks output (subst (λ (k : ℕ). order < k) counted_is below))
 

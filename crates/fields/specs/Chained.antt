@@ -1,6 +1,7 @@
 -- One reader after another, expressed by the steps of the code.
 -- Assumes nothing.
-use Rattle.laws.specs.Prelude.{ℕ, ◌<◌, ◌≤◌, ◌≡◌, ◌∙◌, sym, refl, List, arith, length, drop, drop_of_length-le, drop-cons}
+use Rattle.std.specs.Prelude.{◌<◌, ◌≤◌, ◌≡◌}
+use Rattle.laws.specs.Prelude.{ℕ, ◌∙◌, sym, refl, List, arith, length, drop, drop_of_length-le, drop-cons}
 use Rattle.rules.specs.Sheets.Fields.{Read, read, turned_back, Reader, then, ◌>>=◌, give, closed}
 use Rattle.rules.specs.Sheets.Reading.{answered}
 use Rattle.fields.specs.Steps.{step_as, nothing}

@@ -1,6 +1,7 @@
 -- Decimal values of one and of two digits, compared with a field's bytes.
 -- Assumes nothing.
-use Rattle.laws.specs.Prelude.{ℕ, ◌<◌, ◌≤◌, ◌+◌, ◌%◌, ◌/◌, ◌≡◌, ◌∙◌, ap, List, [], ◌∷◌, ◌++◌, arith}
+use Rattle.std.specs.Prelude.{◌<◌, ◌≤◌, ◌+◌, ◌%◌, ◌/◌, ◌≡◌, ◌∷◌, ◌++◌}
+use Rattle.laws.specs.Prelude.{ℕ, ◌∙◌, ap, List, [], arith}
 use Rattle.rules.specs.Text.{digit_byte, decimal, zero_byte}
 use Rattle.laws.specs.Numbers.Decimals.{decimal_one as one_digit_lem, decimal_more}
 

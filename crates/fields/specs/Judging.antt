@@ -1,6 +1,7 @@
 -- A field that was judged, with the separator after it.
 -- Assumes nothing.
-use Rattle.laws.specs.Prelude.{ℕ, ◌<◌, ◌≤◌, ◌+◌, suc, ◌≡◌, ◌∙◌, sym, ap, refl, true, false, Bool, List, [], ◌∷◌, add-one, arith, eqb, length, get_or, drop}
+use Rattle.std.specs.Prelude.{◌<◌, ◌≤◌, ◌+◌, ◌≡◌, ◌∷◌}
+use Rattle.laws.specs.Prelude.{ℕ, suc, ◌∙◌, sym, ap, refl, true, false, Bool, List, [], add-one, arith, eqb, length, get_or, drop}
 use Rattle.laws.specs.Prelude.{drop_of_length-le, drop-cons, drop-drop, eq-eqb, ne_eqb}
 use Rattle.rules.specs.Sheets.Fields.{Read, read, turned_back, Judge, judged, separator, spaces, loose_separator, separator_in, after_field_in, field_of_in}
 use Rattle.rules.specs.Sheets.Fields.{field, field_in, run, past, then, past_spaces, spaces_in, Layout, strict, loose}

@@ -1,6 +1,7 @@
 -- A field's end, and the end of some spaces, byte by byte.
 -- Assumes nothing.
-use Rattle.laws.specs.Prelude.{ℕ, ◌<◌, ◌≤◌, ◌+◌, ◌-◌, ◌≡◌, ◌∙◌, sym, refl, true, false, List, [], add-zero, add-sub_cancel_left, add-one, arith, length}
+use Rattle.std.specs.Prelude.{◌<◌, ◌≤◌, ◌+◌, ◌-◌, ◌≡◌}
+use Rattle.laws.specs.Prelude.{ℕ, ◌∙◌, sym, refl, true, false, List, [], add-zero, add-sub_cancel_left, add-one, arith, length}
 use Rattle.laws.specs.Prelude.{get_or, take, drop, length-drop, drop_of_length-le, drop-cons, drop-drop, eq-eqb, ne_eqb}
 use Rattle.rules.specs.Text.{space, newline, space_byte, newline_byte}
 use Rattle.rules.specs.Sheets.Fields.{is_separator, run, past_spaces, spaces_in}

@@ -1,6 +1,7 @@
 -- What follows from a field that was read: its value is good, and the next place is after its separator (in a strict sheet directly after it).
 -- Assumes nothing.
-use Rattle.laws.specs.Prelude.{ℕ, ◌<◌, ◌≤◌, ◌+◌, ◌-◌, suc, ◌≡◌, ◌∙◌, sym, ap, refl, true, false, Bool, ◌&&◌, and-eq-true_iff, List, [], ◌∷◌, arith, eqb}
+use Rattle.std.specs.Prelude.{◌<◌, ◌≤◌, ◌+◌, ◌-◌, ◌≡◌, ◌&&◌, ◌∷◌}
+use Rattle.laws.specs.Prelude.{ℕ, suc, ◌∙◌, sym, ap, refl, true, false, Bool, and-eq-true_iff, List, [], arith, eqb}
 use Rattle.laws.specs.Prelude.{length, drop, length-append, length-drop}
 use Rattle.std.proofs.Math.Option.{Option, none, some}
 use Rattle.rules.specs.Lists.{same}

@@ -1,6 +1,7 @@
 -- Two or three fixed words, to the end of their line.
 -- Assumes nothing.
-use Rattle.laws.specs.Prelude.{ℕ, ◌≡◌, ◌∙◌, ap, refl, List, drop}
+use Rattle.std.specs.Prelude.{◌≡◌}
+use Rattle.laws.specs.Prelude.{ℕ, ◌∙◌, ap, refl, List, drop}
 use Rattle.rules.specs.Sheets.Fields.{Reader, ◌>>=◌, then, field, field_in, Layout, strict}
 use Rattle.rules.specs.Text.{space_byte, newline_byte}
 use Rattle.fields.specs.Chained.{chained_back, chained_on, field_then_then}

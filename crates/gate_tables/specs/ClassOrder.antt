@@ -1,6 +1,7 @@
 -- A group's classes rise: each is listed by its least assignment.
 -- Assumes nothing.
-use Rattle.laws.specs.Prelude.{ℕ, ◌<◌, ◌≤◌, ◌^◌, ◌≡◌, subst, List, Memᴰ, length, get_or}
+use Rattle.std.specs.Prelude.{◌<◌, ◌≤◌, ◌^◌, ◌≡◌}
+use Rattle.laws.specs.Prelude.{ℕ, subst, List, Memᴰ, length, get_or}
 use Rattle.rules.specs.Groups.Groups.{part, points, classes, multiplicity}
 use Rattle.rules.specs.Nets.Filling.{class_number}
 use Rattle.trees.specs.Groups.Points.{part_in_points}

@@ -1,6 +1,7 @@
 -- A wiring filled link by link: what is done, and what remains.
 -- Assumes nothing.
-use Rattle.laws.specs.Prelude.{ℕ, ◌<◌, ◌≤◌, ◌+◌, ◌^◌, suc, zero, ◌≡◌, ◌∙◌, sym, ap, refl, subst, ap₂, subst⁻¹, subst₂, Bool, List, [], ◌∷◌, ◌++◌, add-zero}
+use Rattle.std.specs.Prelude.{◌<◌, ◌≤◌, ◌+◌, ◌^◌, ◌≡◌, ◌∷◌, ◌++◌}
+use Rattle.laws.specs.Prelude.{ℕ, suc, zero, ◌∙◌, sym, ap, refl, subst, ap₂, subst⁻¹, subst₂, Bool, List, [], add-zero}
 use Rattle.laws.specs.Prelude.{add-one, dec_lt, ℕ_discrete, arith, eqb, length, get_or, take, drop, length-drop, get_or-append_seam, eq-eqb, ne_eqb}
 use Rattle.rules.specs.Lists.{range, with_each}
 use Rattle.rules.specs.Groups.Groups.{multiplicity}

@@ -1,7 +1,8 @@
 -- A gate's digits computed only from the samples of its two wires: the digit at (u, v) is what the gate gives at the sum of left's sample u and
 -- right's sample v, or 0 if one of the two has no such sample.
 -- Assumes nothing.
-use Rattle.laws.specs.Prelude.{ℕ, ◌<◌, ◌+◌, ◌*◌, ◌%◌, ◌/◌, ◌≡◌, ◌∙◌, sym, subst, subst₂, Bool, List, mod-lt, div-lt_iff_lt-mul, div-add-mod', dec_lt}
+use Rattle.std.specs.Prelude.{◌<◌, ◌+◌, ◌*◌, ◌%◌, ◌/◌, ◌≡◌}
+use Rattle.laws.specs.Prelude.{ℕ, ◌∙◌, sym, subst, subst₂, Bool, List, mod-lt, div-lt_iff_lt-mul, div-add-mod', dec_lt}
 use Rattle.laws.specs.Prelude.{arith, length, get_or}
 use Rattle.rules.specs.Nets.Filling.{given, gate_digits}
 use Rattle.trees.specs.Filling.DigitRule.{Parts, DigitRule, digit_rule}

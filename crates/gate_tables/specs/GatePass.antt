@@ -1,6 +1,7 @@
 -- One pass over the sums of left's and right's samples, in rising order: it finds the classes of the joint group in their order, and each sum's class.
 -- Assumes nothing.
-use Rattle.laws.specs.Prelude.{ℕ, ◌<◌, ◌≤◌, ◌+◌, ◌-◌, ◌^◌, ◌*◌, ◌%◌, ◌/◌, ◌≡◌, ◌∙◌, sym, ap, subst, ap₂, subst⁻¹, subst₂, true, false, Bool, cond, List}
+use Rattle.std.specs.Prelude.{◌<◌, ◌≤◌, ◌+◌, ◌-◌, ◌^◌, ◌*◌, ◌%◌, ◌/◌, ◌≡◌}
+use Rattle.laws.specs.Prelude.{ℕ, ◌∙◌, sym, ap, subst, ap₂, subst⁻¹, subst₂, true, false, Bool, cond, List}
 use Rattle.laws.specs.Prelude.{mul-le-mul_right, lt_of_lt_of_le, dec_lt, ℕ_discrete, arith, length, get_or, take, set, length-set, get_or-set_same}
 use Rattle.laws.specs.Prelude.{get_or-set_other, length-take-le, get_or-take, ext_get_or, digits_lt, digits_mod, digits_div}
 use Rattle.rules.specs.Lists.{first_place}

@@ -1,6 +1,7 @@
 -- The sums of left's and right's samples, one row for each sample of the left, taken in rising order.
 -- Assumes nothing.
-use Rattle.laws.specs.Prelude.{ℕ, ◌<◌, ◌≤◌, ◌+◌, ◌-◌, suc, zero, ◌≡◌, sym, refl, subst, ap₂, List, dec_lt, ℕ_discrete, arith, length, get_or, set}
+use Rattle.std.specs.Prelude.{◌<◌, ◌≤◌, ◌+◌, ◌-◌, ◌≡◌}
+use Rattle.laws.specs.Prelude.{ℕ, suc, zero, sym, refl, subst, ap₂, List, dec_lt, ℕ_discrete, arith, length, get_or, set}
 use Rattle.laws.specs.Prelude.{get_or-set_same, get_or-set_other}
 
 -- the sum of left's sample u and right's sample v

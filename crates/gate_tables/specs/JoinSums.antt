@@ -1,7 +1,8 @@
 -- The classes of a group that joins two others: each is listed by a sum of a sample of the left and one of the right. So the sums, taken in rising
 -- order, give the classes in their order.
 -- Assumes nothing.
-use Rattle.laws.specs.Prelude.{ℕ, ◌<◌, ◌≤◌, ◌+◌, ◌^◌, ◌≡◌, ◌∙◌, sym, ap, subst, true, false, Bool, List, Memᴰ, arith, eqb, length, get_or}
+use Rattle.std.specs.Prelude.{◌<◌, ◌≤◌, ◌+◌, ◌^◌, ◌≡◌}
+use Rattle.laws.specs.Prelude.{ℕ, ◌∙◌, sym, ap, subst, true, false, Bool, List, Memᴰ, arith, eqb, length, get_or}
 use Rattle.rules.specs.Groups.Groups.{part, points, size, classes, multiplicity}
 use Rattle.rules.specs.Nets.Filling.{class_number}
 use Rattle.rules.specs.Nets.Trees.{Apart}

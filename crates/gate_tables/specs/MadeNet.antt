@@ -1,6 +1,7 @@
 -- The net that a choice of parts makes from a table, by value: its gates are those of the definitions, and they keep the rules of a net sheet.
 -- Assumes nothing.
-use Rattle.laws.specs.Prelude.{ℕ, ◌<◌, ◌≤◌, ◌+◌, ◌-◌, ◌^◌, suc, zero, ◌≡◌, ◌∙◌, sym, ap, refl, subst, ap₂, subst⁻¹, ◌≢◌, true, false, Bool, List, arith}
+use Rattle.std.specs.Prelude.{◌<◌, ◌≤◌, ◌+◌, ◌-◌, ◌^◌, ◌≡◌, ◌≢◌}
+use Rattle.laws.specs.Prelude.{ℕ, suc, zero, ◌∙◌, sym, ap, refl, subst, ap₂, subst⁻¹, true, false, Bool, List, arith}
 use Rattle.laws.specs.Prelude.{eqb, length, take, get_or-take, eqb-false}
 use Rattle.rules.specs.Limits.{most_inputs, size_fits}
 use Rattle.rules.specs.Sheets.Sheets.{Gate}

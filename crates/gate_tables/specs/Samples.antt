@@ -1,7 +1,8 @@
 -- One assignment for each value that a wire below the last carries, in the order of the values: an input's levels, or the first of
 -- each class.
 -- Assumes nothing.
-use Rattle.laws.specs.Prelude.{ℕ, ◌<◌, ◌≤◌, ◌-◌, ◌^◌, ◌*◌, ◌%◌, ◌/◌, ◌≡◌, ◌∙◌, sym, ap, refl, subst⁻¹, ◌≢◌, true, false, Bool, List, zero-add, one-le-pow}
+use Rattle.std.specs.Prelude.{◌<◌, ◌≤◌, ◌-◌, ◌^◌, ◌*◌, ◌%◌, ◌/◌, ◌≡◌, ◌≢◌}
+use Rattle.laws.specs.Prelude.{ℕ, ◌∙◌, sym, ap, refl, subst⁻¹, true, false, Bool, List, zero-add, one-le-pow}
 use Rattle.laws.specs.Prelude.{le_refl, mod-eq_of_lt, mul-div_cancel, eqb, length, get_or, eq-eqb, eqb-true, ne_eqb, eqb-false}
 use Rattle.rules.specs.Sheets.Sheets.{level}
 use Rattle.rules.specs.Groups.Groups.{points, part, size, classes, multiplicity}

@@ -1,6 +1,7 @@
 -- The cells of a table within a sheet's bounds, and limits on their number.
 -- Assumes nothing.
-use Rattle.laws.specs.Prelude.{ℕ, ◌<◌, ◌≤◌, ◌^◌, ◌≡◌, true, List, arith, length}
+use Rattle.std.specs.Prelude.{◌<◌, ◌≤◌, ◌^◌, ◌≡◌}
+use Rattle.laws.specs.Prelude.{ℕ, true, List, arith, length}
 use Rattle.rules.specs.Limits.{most_levels, most_inputs, most_cells, size_fits}
 use Rattle.laws.specs.Numbers.Sizes.{sized as sizes}
 

@@ -1,6 +1,7 @@
 -- One row for each wire in one array: the wire's group, the number of its samples, and these.
 -- Assumes nothing.
-use Rattle.laws.specs.Prelude.{ℕ, ◌<◌, ◌≤◌, ◌+◌, ◌-◌, ◌^◌, ◌*◌, ◌≡◌, ◌∙◌, sym, ap, refl, subst⁻¹, List, zero-add, ℕ_discrete, arith, length, get_or, take, drop}
+use Rattle.std.specs.Prelude.{◌<◌, ◌≤◌, ◌+◌, ◌-◌, ◌^◌, ◌*◌, ◌≡◌}
+use Rattle.laws.specs.Prelude.{ℕ, ◌∙◌, sym, ap, refl, subst⁻¹, List, zero-add, ℕ_discrete, arith, length, get_or, take, drop}
 use Rattle.laws.specs.Prelude.{set, length-set, length-drop, length-take, get_or-set_same, get_or-set_other, get_or-take, ext_get_or, get_or-drop, eq-eqb}
 use Rattle.rules.specs.Limits.{most_levels}
 use Rattle.rules.specs.Nets.Wirings.{Link}

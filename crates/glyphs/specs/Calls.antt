@@ -1,7 +1,7 @@
 -- The glyph call: its answer, and the outcome for an accepted sheet.
 -- Assumes nothing.
-use Rattle.laws.specs.Prelude.{ℕ, ◌<◌, ◌≤◌, ◌*◌, ◌≡◌, ◌∙◌, sym, ap, true, false, List, mul-le-mul, length}
-use Rattle.std.specs.Prelude.{ℤ}
+use Rattle.laws.specs.Prelude.{ℕ, ◌∙◌, sym, ap, true, false, List, mul-le-mul, length}
+use Rattle.std.specs.Prelude.{ℤ, ◌<◌, ◌≤◌, ◌*◌, ◌≡◌}
 use Rattle.rules.specs.Calls.Answers.{accepted, refused, written}
 use Rattle.rules.specs.Calls.TableWriting.{Written}
 use Rattle.rules.specs.Calls.Glyphs.{most_side, new_cell, glyph, picture_fits, offsets_fit, glyph_call}

@@ -1,8 +1,8 @@
 -- The framed picture, row by row.
 -- Assumes nothing.
-use Rattle.laws.specs.Prelude.{ℕ, ◌<◌, ◌≤◌, ◌+◌, ◌-◌, suc, ◌*◌, ◌≡◌, ◌∙◌, sym, ap, subst⁻¹, List, mul_comm, mul-le-mul_right, dec_lt, dec_le, arith, length}
+use Rattle.laws.specs.Prelude.{ℕ, suc, ◌∙◌, sym, ap, subst⁻¹, List, mul_comm, mul-le-mul_right, dec_lt, dec_le, arith, length}
 use Rattle.laws.specs.Prelude.{get_or, take, drop, length-drop, length-take-le, get_or-take, get_or-drop, sets, lt-ltb, le-ltb}
-use Rattle.std.specs.Prelude.{ℤ, pos, negsuc}
+use Rattle.std.specs.Prelude.{ℤ, pos, negsuc, ◌<◌, ◌≤◌, ◌+◌, ◌-◌, ◌*◌, ◌≡◌}
 use Rattle.std.proofs.Math.IntN.{sub_ℕ}
 use Rattle.rules.specs.Calls.Glyphs.{level_at}
 use Rattle.laws.specs.Lists.Pastes.{sets_before, sets_behind, sets_there}

@@ -1,7 +1,7 @@
 -- The new picture for a net by value: each cell is the net's value at the levels that its offsets lead to.
 -- Assumes nothing.
-use Rattle.laws.specs.Prelude.{ℕ, ◌≤◌, ◌*◌, List, map, length}
-use Rattle.std.specs.Prelude.{ℤ}
+use Rattle.laws.specs.Prelude.{ℕ, List, map, length}
+use Rattle.std.specs.Prelude.{ℤ, ◌≤◌, ◌*◌}
 use Rattle.rules.specs.Lists.{range, concat_map}
 use Rattle.rules.specs.Sheets.Sheets.{Gate}
 use Rattle.rules.specs.Calls.Glyphs.{levels_read}

@@ -1,9 +1,9 @@
 -- An offset plus the largest one, and where an input's levels begin in the framed picture.
 -- Assumes nothing.
-use Rattle.laws.specs.Prelude.{ℕ, ◌<◌, ◌≤◌, ◌+◌, ◌-◌, ◌^◌, suc, ◌*◌, zero, ◌≡◌, ◌∙◌, sym, ap, refl, true, false, Bool, ◌&&◌, cond, List, add-one}
+use Rattle.laws.specs.Prelude.{ℕ, suc, zero, ◌∙◌, sym, ap, refl, true, false, Bool, cond, List, add-one}
 use Rattle.laws.specs.Prelude.{ℕ_discrete, dec_le, arith, leb, length, get_or, drop, set, length-set, drop_of_length-le, get_or-set_same, get_or-set_other}
 use Rattle.laws.specs.Prelude.{drop-cons, lt-ltb, le-ltb, le-leb, lt-leb}
-use Rattle.std.specs.Prelude.{ℤ, pos, negsuc, ◌+ℤ◌, nat_abs}
+use Rattle.std.specs.Prelude.{ℤ, pos, negsuc, ◌+ℤ◌, nat_abs, ◌<◌, ◌≤◌, ◌+◌, ◌-◌, ◌^◌, ◌*◌, ◌≡◌, ◌&&◌}
 use Rattle.std.proofs.Math.IntN.{sub_ℕ}
 use Rattle.std.specs.Int.Signed.{mag}
 use Rattle.std.specs.Int.{w8}

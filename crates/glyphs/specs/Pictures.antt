@@ -1,6 +1,7 @@
 -- Whether a picture fits, test by test.
 -- Assumes nothing.
-use Rattle.laws.specs.Prelude.{ℕ, ◌<◌, ◌≤◌, ◌*◌, ◌≡◌, ◌∙◌, sym, refl, true, false, Bool, List, mul-le-mul, dec_lt, arith, eqb, ltb, length, eq-eqb, ne_eqb}
+use Rattle.std.specs.Prelude.{◌<◌, ◌≤◌, ◌*◌, ◌≡◌}
+use Rattle.laws.specs.Prelude.{ℕ, ◌∙◌, sym, refl, true, false, Bool, List, mul-le-mul, dec_lt, arith, eqb, ltb, length, eq-eqb, ne_eqb}
 use Rattle.laws.specs.Prelude.{lt-ltb, ltb-true}
 use Rattle.rules.specs.Lists.{all}
 use Rattle.rules.specs.Calls.Glyphs.{side_fits, picture_fits}

@@ -1,6 +1,7 @@
 -- The rows of a picture, one span apart in a list, written one after the other.
 -- Assumes nothing.
-use Rattle.laws.specs.Prelude.{ℕ, ◌<◌, ◌≤◌, ◌+◌, ◌*◌, ◌≡◌, ◌∙◌, sym, ap, refl, ap₂, List, ◌++◌, append-nil, zero-add, zero-mul, mul-le-mul_right}
+use Rattle.std.specs.Prelude.{◌<◌, ◌≤◌, ◌+◌, ◌*◌, ◌≡◌, ◌++◌}
+use Rattle.laws.specs.Prelude.{ℕ, ◌∙◌, sym, ap, refl, ap₂, List, append-nil, zero-add, zero-mul, mul-le-mul_right}
 use Rattle.laws.specs.Prelude.{suc-mul, add-one, arith, length, take, drop, length-append, length-drop, length-take-le, sets, length-sets}
 use Rattle.rules.specs.Lists.{range, concat_map}
 use Rattle.rules.specs.Calls.Glyphs.{most_side}

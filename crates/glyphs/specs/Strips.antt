@@ -1,10 +1,10 @@
 -- The rows of the new picture from the framed one, some at a time.
 -- Assumes nothing.
-use Rattle.laws.specs.Prelude.{ℕ, ◌<◌, ◌≤◌, ◌+◌, ◌-◌, suc, ◌*◌, zero, ◌%◌, ◌/◌, ◌≡◌, ◌∙◌, sym, ap, refl, subst, ap₂, List, ◌++◌, zero-add, add-zero, mod-lt}
+use Rattle.laws.specs.Prelude.{ℕ, suc, zero, ◌∙◌, sym, ap, refl, subst, ap₂, List, zero-add, add-zero, mod-lt}
 use Rattle.laws.specs.Prelude.{div-add-mod', div-lt_iff_lt-mul, mul_comm, mul_assoc, add-mul, zero-mul, mul-le-mul, mul-le-mul_left, mul-le-mul_right}
 use Rattle.laws.specs.Prelude.{add_assoc, arith, length, get_or, drop, replicate, length-replicate, length-drop, length-take-le, get_or-take, ext_get_or, get_or-drop}
 use Rattle.laws.specs.Prelude.{sets, length-sets, sets-eq}
-use Rattle.std.specs.Prelude.{ℤ, pos, ◌+ℤ◌}
+use Rattle.std.specs.Prelude.{ℤ, pos, ◌+ℤ◌, ◌<◌, ◌≤◌, ◌+◌, ◌-◌, ◌*◌, ◌%◌, ◌/◌, ◌≡◌, ◌++◌}
 use Rattle.rules.specs.Lists.{range, concat_map}
 use Rattle.rules.specs.Calls.Answers.{written}
 use Rattle.rules.specs.Calls.Glyphs.{level_at, across, down, levels_read}

@@ -1,6 +1,7 @@
 -- The four calls on a job by value: the job that each returns, every byte of it, what that job represents, and the answer.
 -- Assumes nothing.
-use Rattle.laws.specs.Prelude.{ℕ, ◌+◌, ◌≡◌, ◌∙◌, sym, ap, List}
+use Rattle.std.specs.Prelude.{◌+◌, ◌≡◌}
+use Rattle.laws.specs.Prelude.{ℕ, ◌∙◌, sym, ap, List}
 use Rattle.rules.specs.Sheets.Sheets.{Table}
 use Rattle.rules.specs.Calls.Answers.{accepted, refused}
 use Rattle.rules.specs.Calls.OpenCells.{read_full}
@@ -36,9 +37,9 @@ pub record AskDone (job : Job) (group : ℕ) (r : own_asked.Asked) : Type 0 wher
   pub same : r.job ≡ job
   pub answer : reached_as r.answer ≡ (ask_job (job_of job) group).answer
 
-pub record FinishDone (job : Job) (cells marks output : List ℕ) (r : own_finished.Finished) (cells_then Marks-then output_then : List ℕ) : Type 0 where
+pub record FinishDone (job : Job) (cells marks output : List ℕ) (r : own_finished.Finished) (cells_then marks_then output_then : List ℕ) : Type 0 where
   pub same : r.job ≡ job
-  pub made : made_of r.answer cells_then Marks-then output_then ≡ (finish_job (job_of job) cells marks output).made
+  pub made : made_of r.answer cells_then marks_then output_then ≡ (finish_job (job_of job) cells marks output).made
 
 -- ---- opening
 

@@ -1,6 +1,7 @@
 -- Finishing a job, by its parts: its outcomes, and what making from its table requires.
 -- Assumes nothing.
-use Rattle.laws.specs.Prelude.{ℕ, ◌<◌, ◌≤◌, ◌-◌, ◌^◌, ◌≡◌, ◌∙◌, sym, ap, refl, List, [], sub-zero, arith, take}
+use Rattle.std.specs.Prelude.{◌<◌, ◌≤◌, ◌-◌, ◌^◌, ◌≡◌}
+use Rattle.laws.specs.Prelude.{ℕ, ◌∙◌, sym, ap, refl, List, [], sub-zero, arith, take}
 use Rattle.rules.specs.Limits.{levels_fit, size_fits}
 use Rattle.rules.specs.Sheets.Sheets.{Table}
 use Rattle.rules.specs.Calls.Answers as answers

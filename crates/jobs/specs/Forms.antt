@@ -1,7 +1,8 @@
 -- What a job by value represents. Every value of the struct represents a job. Its lines are read like a table sheet's first lines, up to the space
 -- after the last name; if they are refused, the job has no inputs. Its inks and marks are at the front of their arrays.
 -- Assumes nothing.
-use Rattle.laws.specs.Prelude.{ℕ, ◌≤◌, ◌^◌, ◌≡◌, sym, List, take, pow_mono}
+use Rattle.std.specs.Prelude.{◌≤◌, ◌^◌, ◌≡◌}
+use Rattle.laws.specs.Prelude.{ℕ, sym, List, take, pow_mono}
 use Rattle.rules.specs.Limits.{most_inputs}
 use Rattle.rules.specs.Text.{space}
 use Rattle.rules.specs.Sheets.Fields.{read, turned_back}

@@ -1,7 +1,8 @@
 -- The bytes of a newly opened job: its first lines, its inks and its marks at the front of their arrays, and zeros after them. They represent the job
 -- that is opened.
 -- Assumes nothing.
-use Rattle.laws.specs.Prelude.{ℕ, ◌≤◌, ◌+◌, ◌-◌, ◌^◌, suc, ◌*◌, ◌≡◌, ◌∙◌, sym, ap, refl, List, [], ◌∷◌, ◌++◌, map, append_assoc, arith, length, take, drop}
+use Rattle.std.specs.Prelude.{◌≤◌, ◌+◌, ◌-◌, ◌^◌, ◌*◌, ◌≡◌, ◌∷◌, ◌++◌}
+use Rattle.laws.specs.Prelude.{ℕ, suc, ◌∙◌, sym, ap, refl, List, [], map, append_assoc, arith, length, take, drop}
 use Rattle.laws.specs.Prelude.{length-append, replicate, length-replicate, replicate-append-replicate, take_at}
 use Rattle.rules.specs.Lists.{range}
 use Rattle.rules.specs.Limits.{most_cells}

@@ -1,6 +1,7 @@
 -- "jobs got by opening and stepping": a job by value that came from `open` and then calls of `step` and `mark` represents the job after these moves.
 -- Assumes nothing.
-use Rattle.laws.specs.Prelude.{ℕ, ◌≡◌, ◌∙◌, sym, ap, refl, List, [], ◌∷◌, ◌++◌}
+use Rattle.std.specs.Prelude.{◌≡◌, ◌∷◌, ◌++◌}
+use Rattle.laws.specs.Prelude.{ℕ, ◌∙◌, sym, ap, refl, List, []}
 use Rattle.rules.specs.Calls.Jobs.{open_job, step_job, ask_job, Move, step, ask, moved, after_moves}
 use Rattle.rules.specs.Calls.Jobs as rules
 use Rattle.jobs.specs.Forms.{job_of}

@@ -1,6 +1,7 @@
 -- A step to the next group, in the bytes of a job.
 -- Assumes nothing.
-use Rattle.laws.specs.Prelude.{ℕ, ◌<◌, ◌≤◌, ◌+◌, ◌-◌, ◌^◌, suc, zero, ◌≡◌, ◌∙◌, sym, ap, refl, true, ap₂, List, [], ◌∷◌, ◌++◌, sub-zero, arith, length, take}
+use Rattle.std.specs.Prelude.{◌<◌, ◌≤◌, ◌+◌, ◌-◌, ◌^◌, ◌≡◌, ◌∷◌, ◌++◌}
+use Rattle.laws.specs.Prelude.{ℕ, suc, zero, ◌∙◌, sym, ap, refl, true, ap₂, List, [], sub-zero, arith, length, take}
 use Rattle.laws.specs.Prelude.{drop, set, length-set, take-append-drop, length-take-le, drop-set-lt, pow_mono}
 use Rattle.rules.specs.Limits.{size_fits, most_levels}
 use Rattle.rules.specs.Sheets.Sheets.{Table}

@@ -1,6 +1,7 @@
 -- The set of the gates that changed, gate by gate.
 -- Assumes nothing.
-use Rattle.laws.specs.Prelude.{ℕ, ◌<◌, ◌+◌, ◌-◌, ◌^◌, suc, ◌*◌, ◌≡◌, ◌∙◌, sym, ap, refl, ap₂, true, false, Bool, not, cond, List, [], ◌∷◌, ◌++◌, map}
+use Rattle.std.specs.Prelude.{◌<◌, ◌+◌, ◌-◌, ◌^◌, ◌*◌, ◌≡◌, ◌∷◌, ◌++◌}
+use Rattle.laws.specs.Prelude.{ℕ, suc, ◌∙◌, sym, ap, refl, ap₂, true, false, Bool, not, cond, List, [], map}
 use Rattle.laws.specs.Prelude.{map-map, zero-add, add-zero, add-one, arith, get_or, take, drop}
 use Rattle.rules.specs.Lists.{range, those, same, total}
 use Rattle.rules.specs.Sheets.Sheets.{Gate}

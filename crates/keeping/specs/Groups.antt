@@ -1,6 +1,7 @@
 -- A net's wiring can be filled up to the first gate whose group has too many classes, and the number of gates filled tells which that is.
 -- Assumes nothing.
-use Rattle.laws.specs.Prelude.{ℕ, ◌<◌, ◌≤◌, ◌≡◌, ◌∙◌, ap, subst, subst⁻¹, List, arith, ltb, get_or, lt-ltb, le-ltb}
+use Rattle.std.specs.Prelude.{◌<◌, ◌≤◌, ◌≡◌}
+use Rattle.laws.specs.Prelude.{ℕ, ◌∙◌, ap, subst, subst⁻¹, List, arith, ltb, get_or, lt-ltb, le-ltb}
 use Rattle.rules.specs.Groups.Groups.{multiplicity}
 use Rattle.rules.specs.Nets.Wirings.{Link}
 use Rattle.rules.specs.Nets.Filling.{input_groups}

@@ -1,6 +1,7 @@
 -- Keeping a wiring for two sheets: a refusal, then a full table.
 -- Assumes nothing.
-use Rattle.laws.specs.Prelude.{ℕ, ◌<◌, ◌≤◌, ◌-◌, ◌^◌, ◌≡◌, ◌∙◌, sym, ap, refl, true, false, Bool, List, lt_of_not-le, dec_le, length, get_or, take, lt-ltb}
+use Rattle.std.specs.Prelude.{◌<◌, ◌≤◌, ◌-◌, ◌^◌, ◌≡◌}
+use Rattle.laws.specs.Prelude.{ℕ, ◌∙◌, sym, ap, refl, true, false, Bool, List, lt_of_not-le, dec_le, length, get_or, take, lt-ltb}
 use Rattle.laws.specs.Prelude.{le-ltb}
 use Rattle.rules.specs.Sheets.Sheets as sheets
 use Rattle.rules.specs.Sheets.Sheets.{Table}

@@ -1,6 +1,7 @@
 -- The inputs that matter to a table and that no gate of a net uses. In the search, the remaining inputs decide whether there is one.
 -- Assumes nothing.
-use Rattle.laws.specs.Prelude.{ℕ, ◌-◌, ◌≡◌, ◌∙◌, ap, true, false, Bool, ◌&&◌, not, and-false, List, map, sub-zero, eqb}
+use Rattle.std.specs.Prelude.{◌-◌, ◌≡◌, ◌&&◌}
+use Rattle.laws.specs.Prelude.{ℕ, ◌∙◌, ap, true, false, Bool, not, and-false, List, map, sub-zero, eqb}
 use Rattle.rules.specs.Lists.{range, any}
 use Rattle.rules.specs.Sheets.Sheets.{Gate, used_by}
 use Rattle.rules.specs.Nets.Leaves.{matters}

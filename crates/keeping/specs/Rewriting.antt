@@ -1,6 +1,7 @@
 -- A net's wiring for a full table: the cells buffer, then the gates' groups and the sheet.
 -- Assumes nothing.
-use Rattle.laws.specs.Prelude.{ℕ, ◌<◌, ◌≤◌, ◌+◌, ◌^◌, suc, ◌≡◌, ◌∙◌, sym, ap, ap₂, subst⁻¹, subst₂, true, false, List, arith, length, lt-ltb, le-ltb}
+use Rattle.std.specs.Prelude.{◌<◌, ◌≤◌, ◌+◌, ◌^◌, ◌≡◌}
+use Rattle.laws.specs.Prelude.{ℕ, suc, ◌∙◌, sym, ap, ap₂, subst⁻¹, subst₂, true, false, List, arith, length, lt-ltb, le-ltb}
 use Rattle.rules.specs.Sheets.Sheets as sheets
 use Rattle.rules.specs.Sheets.Sheets.{Table}
 use Rattle.rules.specs.Sheets.Printed.{printed_net}

@@ -1,6 +1,7 @@
 -- What a lister gives at a place, and so at turn k if k turns lead there.
 -- Assumes nothing.
-use Rattle.laws.specs.Prelude.{ℕ, ◌<◌, ◌≤◌, ◌+◌, ◌-◌, ◌≡◌, ◌∙◌, ap, List, [], zero-add, dec_lt, arith, leb, length, take, drop, lt-ltb, le-ltb, le-leb, lt-leb}
+use Rattle.std.specs.Prelude.{◌<◌, ◌≤◌, ◌+◌, ◌-◌, ◌≡◌}
+use Rattle.laws.specs.Prelude.{ℕ, ◌∙◌, ap, List, [], zero-add, dec_lt, arith, leb, length, take, drop, lt-ltb, le-ltb, le-leb, lt-leb}
 use denote.Ref.{Bor}
 use Rattle.rules.specs.Calls.Lister.{line_length, Turn, gate_at, none_left_of}
 use Rattle.readback.specs.Nets.GateLines.{part_of}

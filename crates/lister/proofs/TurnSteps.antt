@@ -1,6 +1,7 @@
 -- The place of the next line feed, and the line after a line.
 -- Assumes nothing.
-use Rattle.laws.specs.Prelude.{ℕ, ◌<◌, ◌≤◌, ◌+◌, suc, zero, ◌≡◌, ◌∙◌, ap, true, false, List, [], ◌∷◌, add-one, arith, eqb, length, get_or, drop, length-drop}
+use Rattle.std.specs.Prelude.{◌<◌, ◌≤◌, ◌+◌, ◌≡◌, ◌∷◌}
+use Rattle.laws.specs.Prelude.{ℕ, suc, zero, ◌∙◌, ap, true, false, List, [], add-one, arith, eqb, length, get_or, drop, length-drop}
 use Rattle.laws.specs.Prelude.{drop_of_length-le, drop-cons, eq-eqb, ne_eqb}
 use Rattle.rules.specs.Text.{newline}
 use Rattle.rules.specs.Calls.Lister.{line_length, after_lines}

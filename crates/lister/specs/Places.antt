@@ -1,7 +1,8 @@
 -- A lister's place. "it starts only on an accepted sheet": after k turns on one, its place is where line 4 + k begins, counted from 0, or the
 -- sheet's end if there is no such line. On any other sheet its place is the end from the start, where no line is left.
 -- Assumes nothing.
-use Rattle.laws.specs.Prelude.{ℕ, ◌+◌, min, ◌≡◌, List, length, drop}
+use Rattle.std.specs.Prelude.{◌+◌, ◌≡◌}
+use Rattle.laws.specs.Prelude.{ℕ, min, List, length, drop}
 use Rattle.rules.specs.Calls.Answers.{accepted, refused}
 use Rattle.rules.specs.Sheets.Reading.{read_net}
 use Rattle.rules.specs.Calls.Lister.{line_length, after_lines}

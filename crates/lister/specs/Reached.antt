@@ -2,7 +2,8 @@
 -- turn k of `listing`, and `done` and `line` then answer for that turn. The fields of a lister are private to its module, so code elsewhere
 -- has no other lister.
 -- Assumes nothing.
-use Rattle.laws.specs.Prelude.{ℕ, suc, zero, ◌≡◌, ◌∙◌, ap, ap₂, List, add-one}
+use Rattle.std.specs.Prelude.{◌≡◌}
+use Rattle.laws.specs.Prelude.{ℕ, suc, zero, ◌∙◌, ap, ap₂, List, add-one}
 use Rattle.std.specs.Borrow.{Bor}
 use Rattle.rules.specs.Calls.Answers.{refused}
 use Rattle.rules.specs.Sheets.Reading.{read_net}

@@ -1,6 +1,7 @@
 -- The place of a lister after k turns is one turn after the previous place, stays at the sheet's end, and has turn k of `listing`.
 -- Assumes nothing.
-use Rattle.laws.specs.Prelude.{ℕ, ◌<◌, ◌≤◌, ◌+◌, ◌-◌, suc, zero, min, ◌≡◌, ◌∙◌, sym, ap, refl, subst, List, add-zero, add-suc, dec_lt, dec_le, arith, length}
+use Rattle.std.specs.Prelude.{◌<◌, ◌≤◌, ◌+◌, ◌-◌, ◌≡◌}
+use Rattle.laws.specs.Prelude.{ℕ, suc, zero, min, ◌∙◌, sym, ap, refl, subst, List, add-zero, add-suc, dec_lt, dec_le, arith, length}
 use Rattle.laws.specs.Prelude.{lt-ltb, le-ltb}
 use Rattle.rules.specs.Sheets.Sheets.{Net}
 use Rattle.rules.specs.Calls.Answers.{Answer, accepted, refused, onward}

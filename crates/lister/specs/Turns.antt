@@ -1,6 +1,7 @@
 -- What a lister gives at a place, and at its k-th turn.
 -- Assumes nothing.
-use Rattle.laws.specs.Prelude.{ℕ, ◌+◌, ◌≡◌, true, false, Bool, List, [], ltb, length, drop}
+use Rattle.std.specs.Prelude.{◌+◌, ◌≡◌}
+use Rattle.laws.specs.Prelude.{ℕ, true, false, Bool, List, [], ltb, length, drop}
 use Rattle.std.specs.Borrow.{Bor}
 use Rattle.rules.specs.Calls.Answers.{Answer, accepted, refused}
 use Rattle.rules.specs.Calls.Lister.{line_length, Turn, gate_at, none_left_of, listing}

@@ -1,6 +1,7 @@
 -- Tidying: a loose sheet that was read, its cells and its table sheet.
 -- Assumes nothing.
-use Rattle.laws.specs.Prelude.{ℕ, ◌<◌, ◌≤◌, ◌-◌, ◌^◌, suc, ◌≡◌, ◌∙◌, sym, ap, refl, subst, true, false, Bool, false≢true, List, sub-zero, arith, length}
+use Rattle.std.specs.Prelude.{◌<◌, ◌≤◌, ◌-◌, ◌^◌, ◌≡◌}
+use Rattle.laws.specs.Prelude.{ℕ, suc, ◌∙◌, sym, ap, refl, subst, true, false, Bool, false≢true, List, sub-zero, arith, length}
 use Rattle.laws.specs.Prelude.{take, length-take-le}
 use Rattle.rules.specs.Limits.{most_cells}
 use Rattle.rules.specs.Sheets.Sheets.{Table}

@@ -1,6 +1,7 @@
 -- Four more marks in the buffer, by the number of the first of them.
 -- Assumes nothing.
-use Rattle.laws.specs.Prelude.{ℕ, ◌<◌, ◌+◌, ◌*◌, ◌/◌, ◌≡◌, ◌∙◌, sym, ap, List, arith, length, take, set}
+use Rattle.std.specs.Prelude.{◌<◌, ◌+◌, ◌*◌, ◌/◌, ◌≡◌}
+use Rattle.laws.specs.Prelude.{ℕ, ◌∙◌, sym, ap, List, arith, length, take, set}
 use Rattle.rules.specs.Groups.Marks.{stored_marks}
 use Rattle.rules.specs.Calls.Answers.{written}
 use Rattle.laws.specs.Nets.StoredMarks.{four_at, stored_set}

@@ -1,7 +1,8 @@
 -- The loop of `mark_below` over plain lists: the groups below g are marked and known, and the arrays keep their lengths.
 -- Assumes nothing.
-use Rattle.laws.specs.Prelude.{ℕ, ◌<◌, ◌≤◌, ◌+◌, ◌-◌, ◌^◌, ◌*◌, ◌≡◌, ◌∙◌, sym, ap, refl, subst, ap₂, subst⁻¹, subst₂, true, false, Bool, ◌&&◌, not}
-use Rattle.laws.specs.Prelude.{true≢false, ◌||◌, or-true, List, pow-suc, dec_lt, arith, eqb, length, get_or, set, eq-eqb, eqb-true, pow_mono, pow_pos}
+use Rattle.std.specs.Prelude.{◌<◌, ◌≤◌, ◌+◌, ◌-◌, ◌^◌, ◌*◌, ◌≡◌, ◌&&◌, ◌||◌}
+use Rattle.laws.specs.Prelude.{ℕ, ◌∙◌, sym, ap, refl, subst, ap₂, subst⁻¹, subst₂, true, false, Bool, not}
+use Rattle.laws.specs.Prelude.{true≢false, or-true, List, pow-suc, dec_lt, arith, eqb, length, get_or, set, eq-eqb, eqb-true, pow_mono, pow_pos}
 use Rattle.rules.specs.Groups.Groups.{member, multiplicity}
 use Rattle.rules.specs.Nets.Leaves.{matters}
 use Rattle.rules.specs.Nets.Trees.{Apart}

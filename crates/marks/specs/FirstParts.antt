@@ -1,6 +1,7 @@
 -- The parts of a group that hold its first-listed input, in the order of the code: that input and a part of the others, by rising number.
 -- Assumes nothing.
-use Rattle.laws.specs.Prelude.{ℕ, ◌<◌, ◌≤◌, ◌+◌, ◌-◌, ◌^◌, ◌≡◌, refl, true, false, Bool, ◌&&◌, and-eq-true_iff, and-true, List, arith, eqb, pow_pos}
+use Rattle.std.specs.Prelude.{◌<◌, ◌≤◌, ◌+◌, ◌-◌, ◌^◌, ◌≡◌, ◌&&◌}
+use Rattle.laws.specs.Prelude.{ℕ, refl, true, false, Bool, and-eq-true_iff, and-true, List, arith, eqb, pow_pos}
 use Rattle.std.specs.Int.Bits.{and_self}
 use Rattle.rules.specs.Groups.Groups.{member}
 use Rattle.rules.specs.Groups.Marks.{inside, mark_in, parts_at}

@@ -1,6 +1,7 @@
 -- The rule for a group's mark, as the code applies it: first whether there are few classes, then whether the group splits.
 -- Assumes nothing.
-use Rattle.laws.specs.Prelude.{ℕ, ◌<◌, ◌≤◌, ◌-◌, ◌^◌, ◌≡◌, ◌∙◌, ap, true, false, ◌||◌, or-true, List, arith, eqb, eq-eqb, ne_eqb, lt-ltb, le-ltb, le-leb}
+use Rattle.std.specs.Prelude.{◌<◌, ◌≤◌, ◌-◌, ◌^◌, ◌≡◌, ◌||◌}
+use Rattle.laws.specs.Prelude.{ℕ, ◌∙◌, ap, true, false, or-true, List, arith, eqb, eq-eqb, ne_eqb, lt-ltb, le-ltb, le-leb}
 use Rattle.laws.specs.Prelude.{lt-leb}
 use Rattle.rules.specs.Lists.{range, any}
 use Rattle.rules.specs.Groups.Groups.{size, multiplicity}

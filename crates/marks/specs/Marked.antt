@@ -1,6 +1,7 @@
 -- What the marking call's answer and buffer represent, and its outcomes.
 -- Assumes nothing.
-use Rattle.laws.specs.Prelude.{ℕ, ◌<◌, ◌≤◌, ◌≡◌, true, false, List, ltb, length, lt-ltb, le-ltb}
+use Rattle.std.specs.Prelude.{◌<◌, ◌≤◌, ◌≡◌}
+use Rattle.laws.specs.Prelude.{ℕ, true, false, List, ltb, length, lt-ltb, le-ltb}
 use Rattle.rules.specs.Groups.Groups.{whole_group}
 use Rattle.rules.specs.Groups.Marks.{mark_in, marks_of, marks_length, stored_marks}
 use Rattle.rules.specs.Calls.Marking.{Marked, marking_call}

@@ -1,6 +1,7 @@
 -- All marks: what marking returns, its own marks and the buffer afterwards, and the step from the marks below a group to the group's mark.
 -- Assumes nothing.
-use Rattle.laws.specs.Prelude.{ℕ, ◌<◌, ◌≤◌, ◌+◌, ◌-◌, ◌^◌, suc, zero, ◌≡◌, ◌∙◌, sym, ap, refl, subst, ap₂, subst⁻¹, not, List, [], ◌∷◌, ◌++◌, add-one, arith}
+use Rattle.std.specs.Prelude.{◌<◌, ◌≤◌, ◌+◌, ◌-◌, ◌^◌, ◌≡◌, ◌∷◌, ◌++◌}
+use Rattle.laws.specs.Prelude.{ℕ, suc, zero, ◌∙◌, sym, ap, refl, subst, ap₂, subst⁻¹, not, List, [], add-one, arith}
 use Rattle.laws.specs.Prelude.{length, get_or, take, set, length-set, get_or-set_same, length-take-le, get_or-take, ext_get_or, take-suc-set, set-get_or, pow_pos}
 use Rattle.rules.specs.Groups.Groups.{member, whole_group}
 use Rattle.rules.specs.Groups.Marks.{mark_in, mark_of, marks_below, marks_of, stored_marks}

@@ -1,6 +1,7 @@
 -- The place of refusal 16 as the code searches for it: size by size, and within each size by rising number.
 -- Assumes nothing.
-use Rattle.laws.specs.Prelude.{ℕ, ◌<◌, ◌≤◌, ◌+◌, ◌-◌, ◌^◌, ◌≡◌, ◌∙◌, sym, ap, true, false, Bool, ◌&&◌, List, Memᴰ, sub-zero, arith, eqb, ltb, lt-ltb}
+use Rattle.std.specs.Prelude.{◌<◌, ◌≤◌, ◌+◌, ◌-◌, ◌^◌, ◌≡◌, ◌&&◌}
+use Rattle.laws.specs.Prelude.{ℕ, ◌∙◌, sym, ap, true, false, Bool, List, Memᴰ, sub-zero, arith, eqb, ltb, lt-ltb}
 use Rattle.laws.specs.Prelude.{le-ltb}
 use Rattle.std.proofs.Math.Option.{Option, none, some}
 use Rattle.rules.specs.Lists.{range, those, concat_map, find}

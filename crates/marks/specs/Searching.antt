@@ -1,6 +1,7 @@
 -- The loop of a search for A over plain numbers: it continues from the first-listed input and the part `part` of the others.
 -- Assumes nothing.
-use Rattle.laws.specs.Prelude.{ℕ, ◌<◌, ◌≤◌, ◌+◌, ◌-◌, ◌^◌, ◌≡◌, ◌∙◌, sym, ap, refl, true, false, Bool, add-zero, ℕ_discrete, arith, pow_pos}
+use Rattle.std.specs.Prelude.{◌<◌, ◌≤◌, ◌+◌, ◌-◌, ◌^◌, ◌≡◌}
+use Rattle.laws.specs.Prelude.{ℕ, ◌∙◌, sym, ap, refl, true, false, Bool, add-zero, ℕ_discrete, arith, pow_pos}
 use Rattle.std.specs.Int.Bits.{and_self}
 use Rattle.rules.specs.Lists.{range, first_place}
 use Rattle.rules.specs.Nets.Wirings.{first_input}

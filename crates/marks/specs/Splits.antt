@@ -1,6 +1,7 @@
 -- The search for document 01's A among the parts of a group that hold its first-listed input.
 -- Assumes nothing.
-use Rattle.laws.specs.Prelude.{ℕ, ◌<◌, ◌≤◌, ◌+◌, ◌-◌, ◌^◌, suc, ◌≡◌, ◌∙◌, sym, ap, refl, ap₂, true, false, Bool, ◌&&◌, not, and-eq-true_iff, ◌||◌}
+use Rattle.std.specs.Prelude.{◌<◌, ◌≤◌, ◌+◌, ◌-◌, ◌^◌, ◌≡◌, ◌&&◌, ◌||◌}
+use Rattle.laws.specs.Prelude.{ℕ, suc, ◌∙◌, sym, ap, refl, ap₂, true, false, Bool, not, and-eq-true_iff}
 use Rattle.laws.specs.Prelude.{false≢true, List, arith, eqb, ltb, leb-suc-suc, eq-eqb, eqb-true}
 use Rattle.std.specs.Int.Bits.{and_le_r}
 use Rattle.rules.specs.Lists.{range, any, first_place}

@@ -1,5 +1,6 @@
 -- One turn of `layers`: the layers of the first k gates are known. Assumes nothing.
-use Rattle.laws.specs.Prelude.{ℕ, ◌<◌, ◌≤◌, ◌+◌, ◌-◌, suc, zero, max, ◌≡◌, ◌∙◌, sym, ap, refl, ap₂, List, [], ◌∷◌, ◌++◌, map, add-zero, add-one, arith}
+use Rattle.std.specs.Prelude.{◌<◌, ◌≤◌, ◌+◌, ◌-◌, ◌≡◌, ◌∷◌, ◌++◌}
+use Rattle.laws.specs.Prelude.{ℕ, suc, zero, max, ◌∙◌, sym, ap, refl, ap₂, List, [], map, add-zero, add-one, arith}
 use Rattle.laws.specs.Prelude.{length, get_or, take, set, length-set, replicate, length-replicate, replicate-append-replicate, get_or-take, take_at, take-suc-set}
 use Rattle.rules.specs.Lists.{range, with_each}
 use Rattle.rules.specs.Nets.Layers.{layers}

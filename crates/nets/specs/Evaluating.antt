@@ -1,6 +1,7 @@
 -- A net's table in a buffer.
 -- Assumes nothing.
-use Rattle.laws.specs.Prelude.{ℕ, ◌^◌, ◌≡◌, List, take}
+use Rattle.std.specs.Prelude.{◌^◌, ◌≡◌}
+use Rattle.laws.specs.Prelude.{ℕ, List, take}
 use Rattle.rules.specs.Nets.Value.{table_of}
 use Rattle.rules.specs.Calls.Answers.{written}
 use Rattle.nets.specs.declared.forms.Net.{Net}

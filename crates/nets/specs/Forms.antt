@@ -1,6 +1,7 @@
 -- What the code's forms represent in the definitions.
 -- Assumes nothing.
-use Rattle.laws.specs.Prelude.{ℕ, ◌<◌, ◌≤◌, ◌+◌, ◌*◌, ◌≡◌, List, map, length, get_or, take, drop, replicate}
+use Rattle.std.specs.Prelude.{◌<◌, ◌≤◌, ◌+◌, ◌*◌, ◌≡◌}
+use Rattle.laws.specs.Prelude.{ℕ, List, map, length, get_or, take, drop, replicate}
 use Rattle.rules.specs.Lists.{range}
 use Rattle.rules.specs.Sheets.Sheets as sheets
 use Rattle.rules.specs.Limits.{most_inputs}

@@ -1,6 +1,7 @@
 -- A net with one more gate, by value: its references are set and its digits are written after the others.
 -- Assumes nothing.
-use Rattle.laws.specs.Prelude.{ℕ, ◌<◌, ◌≤◌, ◌+◌, ◌*◌, ◌≡◌, ◌∙◌, ap, ap₂, List, [], ◌∷◌, ◌++◌, map, mul-le-mul_right, add-one, arith, length, take, drop}
+use Rattle.std.specs.Prelude.{◌<◌, ◌≤◌, ◌+◌, ◌*◌, ◌≡◌, ◌∷◌, ◌++◌}
+use Rattle.laws.specs.Prelude.{ℕ, ◌∙◌, ap, ap₂, List, [], map, mul-le-mul_right, add-one, arith, length, take, drop}
 use Rattle.laws.specs.Prelude.{set, get_or-set_same, get_or-set_other, paste}
 use Rattle.rules.specs.Lists.{range}
 use Rattle.rules.specs.Sheets.Sheets.{Gate}

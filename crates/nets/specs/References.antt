@@ -1,6 +1,7 @@
 -- The references of a gate are inputs and earlier gates: one step over a net's gates.
 -- Assumes nothing.
-use Rattle.laws.specs.Prelude.{ℕ, ◌<◌, ◌+◌, suc, zero, ◌≡◌, map, zero-add, add-zero, arith, get_or}
+use Rattle.std.specs.Prelude.{◌<◌, ◌+◌, ◌≡◌}
+use Rattle.laws.specs.Prelude.{ℕ, suc, zero, map, zero-add, add-zero, arith, get_or}
 use Rattle.rules.specs.Lists.{range}
 use Rattle.rules.specs.Sheets.Sheets.{Gate}
 use Rattle.rules.specs.Sheets.SheetRules.{RefersBack}

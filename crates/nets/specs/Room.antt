@@ -1,6 +1,7 @@
 -- The forms have room for every net within a sheet's bounds: one test over all sizes, computed.
 -- Assumes nothing.
-use Rattle.laws.specs.Prelude.{ℕ, ◌<◌, ◌≤◌, ◌+◌, ◌-◌, ◌*◌, ◌≡◌, refl, true, Bool, not, ◌||◌, mul-le-mul_right, le_trans, arith, leb, leb-true}
+use Rattle.std.specs.Prelude.{◌<◌, ◌≤◌, ◌+◌, ◌-◌, ◌*◌, ◌≡◌, ◌||◌}
+use Rattle.laws.specs.Prelude.{ℕ, refl, true, Bool, not, mul-le-mul_right, le_trans, arith, leb, leb-true}
 use Rattle.rules.specs.Lists.{range, all}
 use Rattle.rules.specs.Limits.{most_inputs, levels_fit, inputs_fit, cells_fit_of, size_fits}
 use Rattle.laws.specs.Numbers.Sizes.{sized, every_size, at_size}

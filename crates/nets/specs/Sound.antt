@@ -1,6 +1,7 @@
 -- What reading and settling prove about a net.
 -- Assumes nothing.
-use Rattle.laws.specs.Prelude.{◌<◌, ◌≤◌, ◌+◌, ◌≡◌, true, arith, length}
+use Rattle.std.specs.Prelude.{◌<◌, ◌≤◌, ◌+◌, ◌≡◌}
+use Rattle.laws.specs.Prelude.{true, arith, length}
 use Rattle.rules.specs.Limits.{size_fits}
 use Rattle.rules.specs.Sheets.SheetRules.{IsNet}
 use Rattle.laws.specs.Lists.Ranges.{map_range_length}

@@ -1,6 +1,7 @@
 -- The digits of each gate of a net: they are m·m digits below m, inside the net's digits.
 -- Assumes nothing.
-use Rattle.laws.specs.Prelude.{ℕ, ◌<◌, ◌≤◌, ◌+◌, suc, ◌*◌, zero, ◌≡◌, map, zero-add, add-zero, mul-pos, arith, length, length-drop, length-take}
+use Rattle.std.specs.Prelude.{◌<◌, ◌≤◌, ◌+◌, ◌*◌, ◌≡◌}
+use Rattle.laws.specs.Prelude.{ℕ, suc, zero, map, zero-add, add-zero, mul-pos, arith, length, length-drop, length-take}
 use Rattle.rules.specs.Lists.{range}
 use Rattle.rules.specs.Sheets.Sheets.{Gate}
 use Rattle.rules.specs.Sheets.SheetRules.{GateTable, Tables}

@@ -1,6 +1,7 @@
 -- What a program's output function returns: the text that the program prints, followed by zeros.
 -- Assumes nothing.
-use Rattle.laws.specs.Prelude.{ℕ, ◌≤◌, ◌-◌, suc, zero, ◌≡◌, ◌∙◌, sym, ap, refl, subst, List, ◌++◌, sub-zero, min-le_right, suc-sub-suc, zero-sub, arith}
+use Rattle.std.specs.Prelude.{◌≤◌, ◌-◌, ◌≡◌, ◌++◌}
+use Rattle.laws.specs.Prelude.{ℕ, suc, zero, ◌∙◌, sym, ap, refl, subst, List, sub-zero, min-le_right, suc-sub-suc, zero-sub, arith}
 use Rattle.laws.specs.Prelude.{length, take, drop, length-append, length-take, length-replicate, length-take-le}
 use Rattle.rules.specs.Calls.Answers.{written}
 use Rattle.rules.specs.Calls.Programs.{refusal_lines, program_output, zeros}

@@ -1,6 +1,7 @@
 -- How long the two lines of a refusal can be.
 -- Assumes nothing.
-use Rattle.laws.specs.Prelude.{ℕ, ◌<◌, ◌≤◌, ◌^◌, arith, length, length-append}
+use Rattle.std.specs.Prelude.{◌<◌, ◌≤◌, ◌^◌}
+use Rattle.laws.specs.Prelude.{ℕ, arith, length, length-append}
 use Rattle.rules.specs.Text.{space, newline, text}
 use Rattle.rules.specs.Sheets.Printed.{line}
 use Rattle.rules.specs.Calls.Programs.{refusal_lines}

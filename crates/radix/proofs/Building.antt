@@ -1,7 +1,8 @@
 -- The loop of `offsets` over plain lists: before the turn for input i, the offsets are those of the inputs from i on.
 -- Assumes nothing.
-use Rattle.laws.specs.Prelude.{ℕ, ◌<◌, ◌≤◌, ◌+◌, ◌-◌, ◌^◌, suc, ◌*◌, zero, ◌≡◌, ◌∙◌, sym, ap, refl, subst, ap₂, subst⁻¹, subst₂, true, false, Bool, List}
-use Rattle.laws.specs.Prelude.{[], ◌∷◌, zero-add, pow-suc, le_trans, pow-zero, pow-le-pow_right, mul-one, mul-le-mul_left, arith, length, get_or, take, set}
+use Rattle.std.specs.Prelude.{◌<◌, ◌≤◌, ◌+◌, ◌-◌, ◌^◌, ◌*◌, ◌≡◌, ◌∷◌}
+use Rattle.laws.specs.Prelude.{ℕ, suc, zero, ◌∙◌, sym, ap, refl, subst, ap₂, subst⁻¹, subst₂, true, false, Bool, List}
+use Rattle.laws.specs.Prelude.{[], zero-add, pow-suc, le_trans, pow-zero, pow-le-pow_right, mul-one, mul-le-mul_left, arith, length, get_or, take, set}
 use Rattle.laws.specs.Prelude.{get_or-take}
 use Rattle.rules.specs.Groups.Groups.{member, size, points}
 use Rattle.laws.specs.Lists.Bounds.{below_at}

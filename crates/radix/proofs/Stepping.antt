@@ -1,5 +1,6 @@
 -- One turn of `next_levels`: the first i levels are still to be stepped. Assumes nothing.
-use Rattle.laws.specs.Prelude.{ℕ, ◌<◌, ◌≤◌, ◌+◌, ◌-◌, suc, zero, ◌≡◌, ◌∙◌, sym, refl, ap₂, List, ◌∷◌, ◌++◌, le_refl, arith, length, get_or, take, drop, set}
+use Rattle.std.specs.Prelude.{◌<◌, ◌≤◌, ◌+◌, ◌-◌, ◌≡◌, ◌∷◌, ◌++◌}
+use Rattle.laws.specs.Prelude.{ℕ, suc, zero, ◌∙◌, sym, refl, ap₂, List, le_refl, arith, length, get_or, take, drop, set}
 use Rattle.laws.specs.Prelude.{get_or-set_same, drop-cons, append_snoc, drop-set-lt, take-set-le, take-suc, lt-length-set, set_split}
 use Rattle.laws.specs.Numbers.Levels.{next_levels, next_turn, next_up}
 

@@ -1,6 +1,7 @@
 -- The loop of `widen` over plain lists: at turn j the first j entries are those of the widened list.
 -- Assumes nothing.
-use Rattle.laws.specs.Prelude.{ℕ, ◌<◌, ◌≤◌, ◌+◌, ◌-◌, suc, ◌*◌, zero, ◌%◌, ◌/◌, ◌≡◌, ◌∙◌, sym, ap, subst, subst⁻¹, List, [], ◌∷◌, ◌++◌, zero-mul}
+use Rattle.std.specs.Prelude.{◌<◌, ◌≤◌, ◌+◌, ◌-◌, ◌*◌, ◌%◌, ◌/◌, ◌≡◌, ◌∷◌, ◌++◌}
+use Rattle.laws.specs.Prelude.{ℕ, suc, zero, ◌∙◌, sym, ap, subst, subst⁻¹, List, [], zero-mul}
 use Rattle.laws.specs.Prelude.{mul-le-mul_right, mod-lt, div-lt_iff_lt-mul, mul_comm, mul-le-mul_left, le_of_lt, add-one, arith, length, get_or, take, set}
 use Rattle.laws.specs.Prelude.{length-take-le, get_or-take, take-suc-set, take-suc}
 use Rattle.radix.specs.Widths.{offsets_end}

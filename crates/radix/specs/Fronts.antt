@@ -1,6 +1,7 @@
 -- A list at the front of another, as a call of `offsets` leaves it; and the number of the other inputs' group.
 -- Assumes nothing.
-use Rattle.laws.specs.Prelude.{ℕ, ◌≤◌, ◌-◌, ◌^◌, ◌≡◌, ◌∙◌, ap, List, sub-zero, arith, length, take, length-take}
+use Rattle.std.specs.Prelude.{◌≤◌, ◌-◌, ◌^◌, ◌≡◌}
+use Rattle.laws.specs.Prelude.{ℕ, ◌∙◌, ap, List, sub-zero, arith, length, take, length-take}
 use Rattle.rules.specs.Groups.Groups.{whole_group, others}
 
 -- xs is the first r elements of out

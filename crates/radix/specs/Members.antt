@@ -1,6 +1,7 @@
 -- The test whether a group has only one member, its first-listed member as a count of zeros, and the number of its members as a count of bits.
 -- Assumes nothing.
-use Rattle.laws.specs.Prelude.{ℕ, ◌<◌, ◌+◌, ◌-◌, ◌^◌, suc, zero, ◌%◌, ◌/◌, ◌≡◌, ◌∙◌, sym, ap, refl, true, false, Bool, cond, dec_lt, arith, eqb, eq-eqb}
+use Rattle.std.specs.Prelude.{◌<◌, ◌+◌, ◌-◌, ◌^◌, ◌%◌, ◌/◌, ◌≡◌}
+use Rattle.laws.specs.Prelude.{ℕ, suc, zero, ◌∙◌, sym, ap, refl, true, false, Bool, cond, dec_lt, arith, eqb, eq-eqb}
 use Rattle.laws.specs.Prelude.{ne_eqb}
 use Rattle.std.specs.Int.Count.{count_trailing_zeros, under, ones, ones_step}
 use Rattle.rules.specs.Groups.Groups.{member, size}

@@ -1,8 +1,9 @@
 -- A group's assignments built from the last input to the first, as the code builds them: they are document 01's, and each is
 -- small.
 -- Assumes nothing.
-use Rattle.laws.specs.Prelude.{ℕ, ◌<◌, ◌≤◌, ◌+◌, ◌^◌, suc, ◌*◌, zero, ◌%◌, ◌/◌, ◌≡◌, ◌∙◌, sym, ap, refl, subst, ap₂, subst⁻¹, true, false, Bool, List, []}
-use Rattle.laws.specs.Prelude.{◌∷◌, ◌++◌, map, append-nil, map-map, map-id, zero-add, add-zero, zero-mul, mul-le-mul_right, pow-suc, suc-mul, pow-zero}
+use Rattle.std.specs.Prelude.{◌<◌, ◌≤◌, ◌+◌, ◌^◌, ◌*◌, ◌%◌, ◌/◌, ◌≡◌, ◌∷◌, ◌++◌}
+use Rattle.laws.specs.Prelude.{ℕ, suc, zero, ◌∙◌, sym, ap, refl, subst, ap₂, subst⁻¹, true, false, Bool, List, []}
+use Rattle.laws.specs.Prelude.{map, append-nil, map-map, map-id, zero-add, add-zero, zero-mul, mul-le-mul_right, pow-suc, suc-mul, pow-zero}
 use Rattle.laws.specs.Prelude.{mod-lt, lt_of_lt_of_le, div-lt_iff_lt-mul, div-add-mod', mul_comm, mul-one, add_assoc, mul_assoc, add-mul, mul-zero}
 use Rattle.laws.specs.Prelude.{add_comm, suc-add, add-suc, mul-le-mul_left, mul-suc, le-mul_of_pos_right, one-le-mul, arith, length, get_or, take}
 use Rattle.laws.specs.Prelude.{length-append, length-map, get_or-append, take_at, get_or-append-add}

@@ -1,6 +1,7 @@
 -- Groups as bit patterns: the parts of a group in rising order, and a group without its first-listed input.
 -- Assumes nothing.
-use Rattle.laws.specs.Prelude.{ℕ, ◌<◌, ◌≤◌, ◌+◌, ◌-◌, ◌^◌, suc, ◌*◌, zero, ◌%◌, ◌/◌, min, ◌≡◌, ◌∙◌, sym, ap, refl, subst, ap₂, true, false, Bool, ◌&&◌}
+use Rattle.std.specs.Prelude.{◌<◌, ◌≤◌, ◌+◌, ◌-◌, ◌^◌, ◌*◌, ◌%◌, ◌/◌, ◌≡◌, ◌&&◌}
+use Rattle.laws.specs.Prelude.{ℕ, suc, zero, min, ◌∙◌, sym, ap, refl, subst, ap₂, true, false, Bool}
 use Rattle.laws.specs.Prelude.{not, and-eq-true_iff, cond, dec_lt, arith}
 use Rattle.std.specs.Int.Bits.{bit_and, and_step, and_zero_r, and_self}
 use Rattle.std.proofs.lemmas.Nat.{and_le_l}

@@ -1,6 +1,7 @@
 -- The weight of an input in an index: an index is the sum of its levels, each times its input's weight.
 -- Assumes nothing.
-use Rattle.laws.specs.Prelude.{ℕ, ◌<◌, ◌≤◌, ◌-◌, ◌^◌, ◌*◌, ◌≡◌, subst, List, pow-suc, pow-le-pow_right, arith, get_or}
+use Rattle.std.specs.Prelude.{◌<◌, ◌≤◌, ◌-◌, ◌^◌, ◌*◌, ◌≡◌}
+use Rattle.laws.specs.Prelude.{ℕ, subst, List, pow-suc, pow-le-pow_right, arith, get_or}
 
 -- ws holds every input's weight
 abbrev pub Weights : ℕ → ℕ → List ℕ → Type 0

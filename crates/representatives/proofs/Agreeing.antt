@@ -1,6 +1,7 @@
 -- The loop of `agree` over plain numbers: the levels from input i on have been compared, and the rest of each number holds the levels before.
 -- Assumes nothing.
-use Rattle.laws.specs.Prelude.{ℕ, ◌<◌, ◌≤◌, ◌+◌, ◌-◌, ◌^◌, suc, ◌%◌, ◌/◌, ◌≡◌, ◌∙◌, sym, ap, ◌≢◌, true, ◌&&◌, not, true≢false, and-eq-true_iff, pow-suc}
+use Rattle.std.specs.Prelude.{◌<◌, ◌≤◌, ◌+◌, ◌-◌, ◌^◌, ◌%◌, ◌/◌, ◌≡◌, ◌≢◌, ◌&&◌}
+use Rattle.laws.specs.Prelude.{ℕ, suc, ◌∙◌, sym, ap, true, not, true≢false, and-eq-true_iff, pow-suc}
 use Rattle.laws.specs.Prelude.{pow-zero, div-div-eq-div-mul, div-eq_of_lt, div-one, dec_lt, ℕ_discrete, arith, eq-eqb, pow-add, pow-lt}
 use lib.Bits.{bit_and, and_le_l}
 use Rattle.rules.specs.Sheets.Sheets.{level}

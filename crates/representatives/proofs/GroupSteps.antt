@@ -1,6 +1,7 @@
 -- A step from group to group over plain lists: the empty group, and a group to which too many classes pass on.
 -- Assumes nothing.
-use Rattle.laws.specs.Prelude.{ℕ, ◌<◌, ◌≤◌, ◌+◌, ◌-◌, ◌^◌, ◌*◌, ◌≡◌, ◌∙◌, sym, ap, refl, subst, subst⁻¹, true, List, zero-mul, one-le-pow, arith, length}
+use Rattle.std.specs.Prelude.{◌<◌, ◌≤◌, ◌+◌, ◌-◌, ◌^◌, ◌*◌, ◌≡◌}
+use Rattle.laws.specs.Prelude.{ℕ, ◌∙◌, sym, ap, refl, subst, subst⁻¹, true, List, zero-mul, one-le-pow, arith, length}
 use Rattle.laws.specs.Prelude.{get_or, set, get_or-set_same, eqb-true, pow_pos}
 use lib.Bits.{bit_and, and_le_r}
 use Rattle.rules.specs.Groups.Groups.{member, size}

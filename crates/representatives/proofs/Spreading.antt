@@ -1,6 +1,7 @@
 -- The loop of `spread` over plain lists: the assignments so far cover the group without the remaining members.
 -- Assumes nothing.
-use Rattle.laws.specs.Prelude.{ℕ, ◌<◌, ◌≤◌, ◌+◌, ◌-◌, ◌^◌, ◌*◌, ◌%◌, ◌/◌, ◌≡◌, ◌∙◌, sym, ap, refl, subst, subst⁻¹, subst₂, true, false, ◌&&◌, not}
+use Rattle.std.specs.Prelude.{◌<◌, ◌≤◌, ◌+◌, ◌-◌, ◌^◌, ◌*◌, ◌%◌, ◌/◌, ◌≡◌, ◌&&◌}
+use Rattle.laws.specs.Prelude.{ℕ, ◌∙◌, sym, ap, refl, subst, subst⁻¹, subst₂, true, false, not}
 use Rattle.laws.specs.Prelude.{and-false, List, pow-suc, pow-zero, mod-lt, mul_comm, mul-one, one-le-pow, mul_assoc, le-mul_of_pos_right, one-le-mul}
 use Rattle.laws.specs.Prelude.{arith, length, get_or, take, length-take-le, get_or-take}
 use Rattle.rules.specs.Groups.Groups.{member, size}

@@ -1,6 +1,7 @@
 -- The loop of `source` over plain numbers: the members still to be tried are members of g, and so is the best so far.
 -- Assumes nothing.
-use Rattle.laws.specs.Prelude.{ℕ, ◌<◌, ◌≤◌, ◌-◌, ◌^◌, ◌≡◌, subst⁻¹, true, arith, pow_pos}
+use Rattle.std.specs.Prelude.{◌<◌, ◌≤◌, ◌-◌, ◌^◌, ◌≡◌}
+use Rattle.laws.specs.Prelude.{ℕ, subst⁻¹, true, arith, pow_pos}
 use Rattle.rules.specs.Groups.Marks.{inside}
 use Rattle.rules.specs.Nets.Wirings.{first_input}
 use Rattle.trees.specs.Groups.Members.{member_inside, first_member}

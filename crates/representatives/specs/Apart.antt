@@ -1,6 +1,7 @@
 -- Two rows and a column that distinguishes them.
 -- Assumes nothing.
-use Rattle.laws.specs.Prelude.{ℕ, ◌+◌, ◌≡◌, ◌∙◌, sym, refl, subst, ◌≢◌, true, false, Bool, true≢false, List, get_or, eqb-true}
+use Rattle.std.specs.Prelude.{◌+◌, ◌≡◌, ◌≢◌}
+use Rattle.laws.specs.Prelude.{ℕ, ◌∙◌, sym, refl, subst, true, false, Bool, true≢false, List, get_or, eqb-true}
 use Rattle.std.proofs.Math.Option.{Option, none, some}
 use Rattle.rules.specs.Groups.Groups.{alike_over}
 use Rattle.laws.specs.Lists.Tests.{all_mem}

@@ -1,6 +1,7 @@
 -- Columns given as heads and a run: each head plus each number below the run. The cells of a row at the columns of one head are neighbours.
 -- Assumes nothing.
-use Rattle.laws.specs.Prelude.{ℕ, ◌<◌, ◌≤◌, ◌+◌, ◌*◌, ◌%◌, ◌/◌, ◌≡◌, ◌∙◌, sym, ap, subst, ap₂, ◌≢◌, true, List, map, Memᴰ, zero-add, zero-mul, mod-lt}
+use Rattle.std.specs.Prelude.{◌<◌, ◌≤◌, ◌+◌, ◌*◌, ◌%◌, ◌/◌, ◌≡◌, ◌≢◌}
+use Rattle.laws.specs.Prelude.{ℕ, ◌∙◌, sym, ap, subst, ap₂, true, List, map, Memᴰ, zero-add, zero-mul, mod-lt}
 use Rattle.laws.specs.Prelude.{div-lt_iff_lt-mul, mul_comm, mul-one, add_assoc, mul-zero, mod-eq_of_lt, div-eq_of_lt, dec_lt, ℕ_discrete, arith, eqb}
 use Rattle.laws.specs.Prelude.{length, get_or, eq-eqb, digits_lt, digits_mod, digits_div}
 use Rattle.rules.specs.Lists.{range}

@@ -1,6 +1,7 @@
 -- Part of one list copied into another.
 -- Assumes nothing.
-use Rattle.laws.specs.Prelude.{ℕ, ◌<◌, ◌+◌, ◌≡◌, ◌∙◌, sym, ap, List, ℕ_discrete, arith, length, get_or, set, get_or-set_same, get_or-set_other}
+use Rattle.std.specs.Prelude.{◌<◌, ◌+◌, ◌≡◌}
+use Rattle.laws.specs.Prelude.{ℕ, ◌∙◌, sym, ap, List, ℕ_discrete, arith, length, get_or, set, get_or-set_same, get_or-set_other}
 
 -- `count` numbers, from a on, are copied to b and after it; the rest is unchanged
 pub record Copied (from : List ℕ) (a : ℕ) (before : List ℕ) (b count : ℕ) (after : List ℕ) : Type 0 where

@@ -1,6 +1,7 @@
 -- Rows that cover a group and columns that cover the other inputs: what the first row of each class says about the group.
 -- Assumes nothing.
-use Rattle.laws.specs.Prelude.{ℕ, ◌<◌, ◌≤◌, ◌+◌, ◌-◌, ◌^◌, ◌*◌, ◌≡◌, ◌∙◌, sym, ap, refl, subst, subst⁻¹, subst₂, ◌⊎◌, inl, inr, false, List, [], Memᴰ}
+use Rattle.std.specs.Prelude.{◌<◌, ◌≤◌, ◌+◌, ◌-◌, ◌^◌, ◌*◌, ◌≡◌, ◌⊎◌}
+use Rattle.laws.specs.Prelude.{ℕ, ◌∙◌, sym, ap, refl, subst, subst⁻¹, subst₂, inl, inr, false, List, [], Memᴰ}
 use Rattle.laws.specs.Prelude.{mem_not_nil, zero-add, sub-zero, pow-suc, le_trans, pow-zero, pow-le-pow_right, lt_of_lt_of_le, one-mul, not-suc-le-zero}
 use Rattle.laws.specs.Prelude.{arith, length, get_or, take, set, length-set, length-take, get_or-set_same, get_or-set_other, length-take-le, get_or-take, eq-eqb}
 use Rattle.rules.specs.Groups.Groups.{part, size, others, alike_over, multiplicity}

@@ -1,6 +1,7 @@
 -- Assignments that cover a group, from those recorded for a group inside it.
 -- Assumes nothing.
-use Rattle.laws.specs.Prelude.{ℕ, ◌<◌, ◌≤◌, ◌+◌, ◌-◌, ◌^◌, ◌*◌, ◌≡◌, ◌∙◌, sym, ap, true, List, zero-add, mul-le-mul_right, le_trans, pow-le-pow_right}
+use Rattle.std.specs.Prelude.{◌<◌, ◌≤◌, ◌+◌, ◌-◌, ◌^◌, ◌*◌, ◌≡◌}
+use Rattle.laws.specs.Prelude.{ℕ, ◌∙◌, sym, ap, true, List, zero-add, mul-le-mul_right, le_trans, pow-le-pow_right}
 use Rattle.laws.specs.Prelude.{arith, length, get_or, pow-add}
 use Rattle.rules.specs.Groups.Groups.{size, part}
 use Rattle.rules.specs.Groups.Marks.{inside}

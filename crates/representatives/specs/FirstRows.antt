@@ -1,6 +1,7 @@
 -- What the search for the first of each class among rows requires.
 -- Assumes nothing.
-use Rattle.laws.specs.Prelude.{ℕ, ◌<◌, List, length, get_or}
+use Rattle.std.specs.Prelude.{◌<◌}
+use Rattle.laws.specs.Prelude.{ℕ, List, length, get_or}
 use Rattle.classes.specs.Within.{Within}
 
 -- the requirements: some rows and some columns, inside the cells, and room for the first of m + 1 classes

@@ -1,7 +1,8 @@
 -- What is recorded for each group, m places each. With few classes: their number, and assignments that cover the group. With too many: the number 0,
 -- and in the first two places the inputs at which its witness columns agree, and a group inside it with few classes.
 -- Assumes nothing.
-use Rattle.laws.specs.Prelude.{ℕ, ◌<◌, ◌≤◌, ◌+◌, ◌^◌, ◌*◌, ◌≡◌, ◌∙◌, sym, subst, subst⁻¹, List, mul-le-mul_right, suc-mul, le_trans, dec_lt, ℕ_discrete}
+use Rattle.std.specs.Prelude.{◌<◌, ◌≤◌, ◌+◌, ◌^◌, ◌*◌, ◌≡◌}
+use Rattle.laws.specs.Prelude.{ℕ, ◌∙◌, sym, subst, subst⁻¹, List, mul-le-mul_right, suc-mul, le_trans, dec_lt, ℕ_discrete}
 use Rattle.laws.specs.Prelude.{arith, length, get_or, set, get_or-set_same, get_or-set_other}
 use Rattle.std.proofs.lemmas.Nat.{and_le_r}
 use Rattle.rules.specs.Groups.Groups.{size, multiplicity}

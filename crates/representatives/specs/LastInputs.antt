@@ -1,6 +1,7 @@
 -- The inputs from one on have the smallest weights, so their assignments are the numbers below a power of m. With them, a column becomes a run.
 -- Assumes nothing.
-use Rattle.laws.specs.Prelude.{ℕ, ◌<◌, ◌≤◌, ◌+◌, ◌-◌, ◌^◌, suc, ◌*◌, zero, ◌%◌, ◌/◌, ◌≡◌, ◌∙◌, sym, ap, refl, subst, ap₂, subst⁻¹, true, false, Bool, ◌&&◌}
+use Rattle.std.specs.Prelude.{◌<◌, ◌≤◌, ◌+◌, ◌-◌, ◌^◌, ◌*◌, ◌%◌, ◌/◌, ◌≡◌, ◌&&◌}
+use Rattle.laws.specs.Prelude.{ℕ, suc, zero, ◌∙◌, sym, ap, refl, subst, ap₂, subst⁻¹, true, false, Bool}
 use Rattle.laws.specs.Prelude.{not, cond, and-false, List, zero-mul, pow-suc, pow-zero, mod-lt, lt_of_lt_of_le, one-le-pow, le_refl, le_step, mod-eq_of_lt}
 use Rattle.laws.specs.Prelude.{div-eq_of_lt, mod-mod, mod-one, dec_lt, arith, length, get_or, mod-mul, pow_mono, pow_pos}
 use Rattle.rules.specs.Groups.Groups.{member, part, whole_group, others}

@@ -1,6 +1,7 @@
 -- Two runs of a table's inks.
 -- Assumes nothing.
-use Rattle.laws.specs.Prelude.{ℕ, ◌<◌, ◌≤◌, ◌+◌, ◌-◌, ◌≡◌, ◌≢◌, dec_lt, arith}
+use Rattle.std.specs.Prelude.{◌<◌, ◌≤◌, ◌+◌, ◌-◌, ◌≡◌, ◌≢◌}
+use Rattle.laws.specs.Prelude.{ℕ, dec_lt, arith}
 
 -- the `count` inks from a on equal those from b on
 abbrev pub SameRuns : (ℕ → ℕ) → ℕ → ℕ → ℕ → Type 0

@@ -1,6 +1,7 @@
 -- A power of two, as a shift computes it.
 -- Assumes nothing.
-use Rattle.laws.specs.Prelude.{ℕ, ◌≤◌, ◌^◌, ◌*◌, ◌%◌, ◌≡◌, ◌∙◌, ap, one-mul, lt_of_le_of_lt, mod-eq_of_lt, arith, pow_mono, pow-lt}
+use Rattle.std.specs.Prelude.{◌≤◌, ◌^◌, ◌*◌, ◌%◌, ◌≡◌}
+use Rattle.laws.specs.Prelude.{ℕ, ◌∙◌, ap, one-mul, lt_of_le_of_lt, mod-eq_of_lt, arith, pow_mono, pow-lt}
 use Rattle.radix.specs.Widths.{most_members}
 
 pub shifted : (i : ℕ) → i ≤ most_members → 1 * 2 ^ i % 2 ^ 64 ≡ 2 ^ i

@@ -1,6 +1,7 @@
 -- A member of a group, as a group by itself, and whether too many classes pass on to the larger group.
 -- Assumes nothing.
-use Rattle.laws.specs.Prelude.{ℕ, ◌<◌, ◌≤◌, ◌-◌, ◌^◌, ◌*◌, ◌≡◌, ◌∙◌, sym, ap, refl, ◌≢◌, true, false, Bool, ◌&&◌, and-false, List, arith, eqb, get_or}
+use Rattle.std.specs.Prelude.{◌<◌, ◌≤◌, ◌-◌, ◌^◌, ◌*◌, ◌≡◌, ◌≢◌, ◌&&◌}
+use Rattle.laws.specs.Prelude.{ℕ, ◌∙◌, sym, ap, refl, true, false, Bool, and-false, List, arith, eqb, get_or}
 use Rattle.laws.specs.Prelude.{eqb-true, pow_pos}
 use Rattle.std.specs.Int.Bits.{bit_and}
 use Rattle.std.proofs.lemmas.Nat.{and_le_r}

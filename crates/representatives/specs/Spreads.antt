@@ -1,6 +1,7 @@
 -- Assignments that cover a group, extended to a group with more members.
 -- Assumes nothing.
-use Rattle.laws.specs.Prelude.{ℕ, ◌<◌, ◌≤◌, ◌-◌, ◌^◌, ◌*◌, ◌≡◌, true, List, length, get_or}
+use Rattle.std.specs.Prelude.{◌<◌, ◌≤◌, ◌-◌, ◌^◌, ◌*◌, ◌≡◌}
+use Rattle.laws.specs.Prelude.{ℕ, true, List, length, get_or}
 use Rattle.rules.specs.Groups.Groups.{size, part}
 use Rattle.rules.specs.Groups.Marks.{inside}
 use Rattle.trees.specs.Groups.Covers.{Covers}

@@ -1,6 +1,7 @@
 -- One group after the other: what a step requires and what it records.
 -- Assumes nothing.
-use Rattle.laws.specs.Prelude.{ℕ, ◌<◌, ◌≤◌, ◌+◌, ◌^◌, suc, ◌*◌, zero, ◌≡◌, ◌∙◌, sym, ap, refl, true, false, List, mul-le-mul_right, pow-suc, mul_comm}
+use Rattle.std.specs.Prelude.{◌<◌, ◌≤◌, ◌+◌, ◌^◌, ◌*◌, ◌≡◌}
+use Rattle.laws.specs.Prelude.{ℕ, suc, zero, ◌∙◌, sym, ap, refl, true, false, List, mul-le-mul_right, pow-suc, mul_comm}
 use Rattle.laws.specs.Prelude.{mul_assoc, pow-le-pow_left, add-one, dec_lt, arith, length, get_or, pow_mono, pow_pos}
 use Rattle.rules.specs.Groups.Groups.{member, others}
 use Rattle.rules.specs.Calls.Answers.{ink_in}

@@ -1,6 +1,7 @@
 -- Columns that distinguish rows, and the inputs at which they have the same levels as one of them.
 -- Assumes nothing.
-use Rattle.laws.specs.Prelude.{ℕ, ◌<◌, ◌≤◌, ◌+◌, ◌-◌, ◌^◌, ◌≡◌, ◌∙◌, sym, refl, subst⁻¹, ◌≢◌, true, false, false≢true, List, ℕ_discrete, arith, length, get_or}
+use Rattle.std.specs.Prelude.{◌<◌, ◌≤◌, ◌+◌, ◌-◌, ◌^◌, ◌≡◌, ◌≢◌}
+use Rattle.laws.specs.Prelude.{ℕ, ◌∙◌, sym, refl, subst⁻¹, true, false, false≢true, List, ℕ_discrete, arith, length, get_or}
 use Rattle.rules.specs.Groups.Groups.{member, alike_over}
 use Rattle.trees.specs.Groups.Members.{member_zero}
 use Rattle.trees.specs.Groups.Told.{SameAt}

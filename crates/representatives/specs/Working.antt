@@ -1,6 +1,7 @@
 -- A step from group to group over plain lists: what the calls that count the classes of a group require, and what is found about the group.
 -- Assumes nothing.
-use Rattle.laws.specs.Prelude.{ℕ, ◌<◌, ◌≤◌, ◌+◌, ◌-◌, ◌^◌, ◌*◌, ◌≡◌, ◌∙◌, sym, ap, refl, subst, subst⁻¹, true, false, Bool, not, List, dec_lt, arith}
+use Rattle.std.specs.Prelude.{◌<◌, ◌≤◌, ◌+◌, ◌-◌, ◌^◌, ◌*◌, ◌≡◌}
+use Rattle.laws.specs.Prelude.{ℕ, ◌∙◌, sym, ap, refl, subst, subst⁻¹, true, false, Bool, not, List, dec_lt, arith}
 use Rattle.laws.specs.Prelude.{length, get_or, take, pow-lt}
 use Rattle.std.specs.Int.Bits.{bit_and}
 use Rattle.std.proofs.lemmas.Nat.{and_le_r}

@@ -1,6 +1,7 @@
 -- Settling and making with either choice of a net: their results, and how the calls of document 01 and of the shallow net follow from them.
 -- Assumes nothing.
-use Rattle.laws.specs.Prelude.{ℕ, ◌-◌, ◌^◌, ◌≡◌, ◌∙◌, sym, ap, refl, List, take}
+use Rattle.std.specs.Prelude.{◌-◌, ◌^◌, ◌≡◌}
+use Rattle.laws.specs.Prelude.{ℕ, ◌∙◌, sym, ap, refl, List, take}
 use Rattle.rules.specs.Sheets.Sheets.{Table}
 use Rattle.rules.specs.Sheets.Sheets as sheets
 use Rattle.rules.specs.Calls.Answers.{Answer, accepted, onward, refused}

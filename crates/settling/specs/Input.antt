@@ -1,6 +1,7 @@
 -- A table sheet as the input of a call with cells and marks: its refusals, and what is known of it once both have room.
 -- Assumes nothing.
-use Rattle.laws.specs.Prelude.{ℕ, ◌≤◌, ◌-◌, ◌^◌, ◌≡◌, ◌∙◌, sym, ap, List, arith, length, take}
+use Rattle.std.specs.Prelude.{◌≤◌, ◌-◌, ◌^◌, ◌≡◌}
+use Rattle.laws.specs.Prelude.{ℕ, ◌∙◌, sym, ap, List, arith, length, take}
 use Rattle.rules.specs.Sheets.Sheets.{Table}
 use Rattle.rules.specs.Groups.Marks.{marks_length}
 use Rattle.rules.specs.Calls.Answers.{accepted, refused}

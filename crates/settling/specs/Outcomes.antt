@@ -1,6 +1,7 @@
 -- A table, given by a header's names in a sheet and its inks: what making a net from it requires, and the outcomes.
 -- Assumes nothing.
-use Rattle.laws.specs.Prelude.{ℕ, ◌<◌, ◌≤◌, ◌^◌, ◌≡◌, ◌∙◌, sym, ap, refl, ap₂, subst⁻¹, subst₂, true, List, length}
+use Rattle.std.specs.Prelude.{◌<◌, ◌≤◌, ◌^◌, ◌≡◌}
+use Rattle.laws.specs.Prelude.{ℕ, ◌∙◌, sym, ap, refl, ap₂, subst⁻¹, subst₂, true, List, length}
 use Rattle.rules.specs.Limits.{size_fits, most_settled}
 use Rattle.rules.specs.Sheets.Printed.{printed_net}
 use Rattle.rules.specs.Sheets.SheetRules.{IsNet, NetRules}
@@ -122,7 +123,7 @@ module _ (s : List ℕ) (h : Header) (inks : List ℕ) (given : Given s h inks) 
 
   -- ---- the outcomes once the cells and the marks are written
 
-  module _ (marks all_marks_lem Marks-then : List ℕ) (mark : ℕ) (did : MarkedInto h.levels h.inputs (ink_in inks) marks mark all_marks_lem Marks-then) where
+  module _ (marks all_marks_lem marks_then : List ℕ) (mark : ℕ) (did : MarkedInto h.levels h.inputs (ink_in inks) marks mark all_marks_lem marks_then) where
     pub given_two : mark ≡ 2 → mark_in (marks_of h.levels h.inputs (ink_in inks)) (whole_group h.inputs) ≡ 2
     given_two two = sym did.own.answer ∙ two
 
@@ -132,7 +133,7 @@ module _ (s : List ℕ) (h : Header) (inks : List ℕ) (given : Given s h inks) 
 
       pub given_16 : (choice : Choice) (cells cells_then output : List ℕ) → cells_then ≡ written cells inks → (mark ≡ 2 → ⊥)
           → (place : ℕ) → place ≡ no_tree_place h.inputs all_marks_lem
-          → record { answer = refused 16 place; cells = cells_then; marks = Marks-then; output = output }
+          → record { answer = refused 16 place; cells = cells_then; marks = marks_then; output = output }
           ≡ with_layers (net_layers (net_by choice (table_in s h inks))) (after_marks (net_by choice) (table_in s h inks) cells marks output)
       unfolding header_of
       given_16 choice cells cells_then output copied other place e =
@@ -148,9 +149,9 @@ module _ (s : List ℕ) (h : Header) (inks : List ℕ) (given : Given s h inks) 
 
     pub given_tree : (choice : Choice) (cells cells_then output : List ℕ) → cells_then ≡ written cells inks → mark ≡ 2
         → (net : own.Net) → MadeNet choice h.levels h.inputs (ink_in inks) net → (answer : Layered) (after : List ℕ)
-        → layered_made_of answer cells_then Marks-then after
-        ≡ with_layers (layers net.inputs (gates_of net)) (written_sheet (printed_net (net_in s h net)) cells_then Marks-then output)
-        → layered_made_of answer cells_then Marks-then after
+        → layered_made_of answer cells_then marks_then after
+        ≡ with_layers (layers net.inputs (gates_of net)) (written_sheet (printed_net (net_in s h net)) cells_then marks_then output)
+        → layered_made_of answer cells_then marks_then after
         ≡ with_layers (net_layers (net_by choice (table_in s h inks))) (after_marks (net_by choice) (table_in s h inks) cells marks output)
     unfolding header_of
     given_tree choice cells cells_then output copied two net is answer after wrote =

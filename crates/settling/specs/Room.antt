@@ -1,6 +1,7 @@
 -- Room for the cells and the marks of a table, as the code checks it: by the number of inks, and the length that the marks need.
 -- Assumes nothing.
-use Rattle.laws.specs.Prelude.{ℕ, ◌<◌, ◌≤◌, ◌^◌, ◌≡◌, ◌∙◌, sym, subst, subst⁻¹, List, length}
+use Rattle.std.specs.Prelude.{◌<◌, ◌≤◌, ◌^◌, ◌≡◌}
+use Rattle.laws.specs.Prelude.{ℕ, ◌∙◌, sym, subst, subst⁻¹, List, length}
 use Rattle.rules.specs.Groups.Marks.{marks_length}
 use Rattle.rules.specs.Calls.Answers.{accepted, refused}
 use Rattle.rules.specs.Calls.Settling.{room_for}

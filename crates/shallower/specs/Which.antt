@@ -1,6 +1,7 @@
 -- What the answer of the shallower of two sheets represents, and what is returned: its address and its bytes.
 -- Assumes nothing.
-use Rattle.laws.specs.Prelude.{ℕ, ◌≡◌, refl, List, []}
+use Rattle.std.specs.Prelude.{◌≡◌}
+use Rattle.laws.specs.Prelude.{ℕ, refl, List, []}
 use Rattle.std.specs.Borrow.{Bor}
 use Rattle.rules.specs.Calls.Shallower as rules
 use Rattle.rules.specs.Calls.Shallower.{first_sheet, second_sheet, no_sheet, shallower_call, which_of}

@@ -1,6 +1,7 @@
 -- The length of a table sheet.
 -- Assumes nothing.
-use Rattle.laws.specs.Prelude.{ℕ, ◌<◌, ◌≤◌, ◌+◌, suc, ◌*◌, zero, ◌≡◌, ◌∙◌, sym, ap, refl, List, [], ◌∷◌, zero-mul, suc-mul, arith, length, get_or}
+use Rattle.std.specs.Prelude.{◌<◌, ◌≤◌, ◌+◌, ◌*◌, ◌≡◌, ◌∷◌}
+use Rattle.laws.specs.Prelude.{ℕ, suc, zero, ◌∙◌, sym, ap, refl, List, [], zero-mul, suc-mul, arith, length, get_or}
 use Rattle.laws.specs.Prelude.{length-append, length-drop, length-take}
 use Rattle.rules.specs.Text.{space, newline, text, decimal}
 use Rattle.rules.specs.Lists.{range}

@@ -1,6 +1,7 @@
 -- A table sheet: what printing it requires.
 -- Assumes nothing.
-use Rattle.laws.specs.Prelude.{ℕ, ◌<◌, ◌≤◌, List, arith, length, get_or}
+use Rattle.std.specs.Prelude.{◌<◌, ◌≤◌}
+use Rattle.laws.specs.Prelude.{ℕ, List, arith, length, get_or}
 use Rattle.rules.specs.Limits.{most_levels}
 use Rattle.laws.specs.Numbers.Sizes.{levels_fit_lem}
 use Rattle.nets.specs.declared.forms.Header.{Header}

@@ -1,6 +1,7 @@
 -- A field of one digit below m.
 -- Assumes nothing.
-use Rattle.laws.specs.Prelude.{ℕ, ◌<◌, ◌≤◌, ◌+◌, ◌-◌, ◌≡◌, ◌∙◌, sym, ap, refl, and-eq-true_iff, and-false, List, [], ◌∷◌, arith, ltb, leb, length, get_or}
+use Rattle.std.specs.Prelude.{◌<◌, ◌≤◌, ◌+◌, ◌-◌, ◌≡◌, ◌∷◌}
+use Rattle.laws.specs.Prelude.{ℕ, ◌∙◌, sym, ap, refl, and-eq-true_iff, and-false, List, [], arith, ltb, leb, length, get_or}
 use Rattle.laws.specs.Prelude.{lt-ltb, le-ltb, le-leb, lt-leb, leb-true, ltb-true}
 use Rattle.rules.specs.Text.{is_digit, zero_byte}
 use Rattle.rules.specs.Sheets.Fields.{Judge, good, bad, judged}

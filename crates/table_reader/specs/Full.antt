@@ -1,6 +1,7 @@
 -- The result of reading a table sheet where a full table is needed (document 02, K13).
 -- Assumes nothing.
-use Rattle.laws.specs.Prelude.{ℕ, ◌<◌, ◌≤◌, ◌-◌, ◌^◌, suc, ◌≡◌, ◌∙◌, sym, ap, subst⁻¹, List, sub-zero, arith, length, get_or, take}
+use Rattle.std.specs.Prelude.{◌<◌, ◌≤◌, ◌-◌, ◌^◌, ◌≡◌}
+use Rattle.laws.specs.Prelude.{ℕ, suc, ◌∙◌, sym, ap, subst⁻¹, List, sub-zero, arith, length, get_or, take}
 use Rattle.rules.specs.Calls.Answers as answers
 use Rattle.rules.specs.Sheets.Reading.{read_table}
 use Rattle.rules.specs.Calls.OpenCells.{full, full_table, read_full}

@@ -1,6 +1,7 @@
 -- The first three lines of a table sheet, strict or loose, and what follows them: the rows, and the end.
 -- Assumes nothing.
-use Rattle.laws.specs.Prelude.{ℕ, ◌≡◌, ◌∙◌, ap, refl, List, drop}
+use Rattle.std.specs.Prelude.{◌≡◌}
+use Rattle.laws.specs.Prelude.{ℕ, ◌∙◌, ap, refl, List, drop}
 use Rattle.rules.specs.Text.{space, newline, text, newline_byte}
 use Rattle.rules.specs.Sheets.Fields.{Reader, then, ◌>>=◌, give, Layout, field_in, the_word, closed}
 use Rattle.rules.specs.Sheets.Reading.{answered}

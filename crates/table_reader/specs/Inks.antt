@@ -1,6 +1,7 @@
 -- An ink field: the sign of an open cell, or a digit.
 -- Assumes nothing.
-use Rattle.laws.specs.Prelude.{ℕ, ◌<◌, ◌≤◌, ◌+◌, ◌≡◌, ◌∙◌, sym, ap, refl, true, false, Bool, false≢true, List, [], ◌∷◌, arith}
+use Rattle.std.specs.Prelude.{◌<◌, ◌≤◌, ◌+◌, ◌≡◌, ◌∷◌}
+use Rattle.laws.specs.Prelude.{ℕ, ◌∙◌, sym, ap, refl, true, false, Bool, false≢true, List, [], arith}
 use Rattle.rules.specs.Lists.{same}
 use Rattle.rules.specs.Text.{zero_byte, open_byte}
 use Rattle.rules.specs.Sheets.Fields.{read, good, field, run}

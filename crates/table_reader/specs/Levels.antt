@@ -1,6 +1,7 @@
 -- A level field, by its byte.
 -- Assumes nothing.
-use Rattle.laws.specs.Prelude.{ℕ, ◌+◌, ◌≡◌, sym, refl, true, false, Bool, List, [], ◌∷◌, eqb, length, get_or}
+use Rattle.std.specs.Prelude.{◌+◌, ◌≡◌, ◌∷◌}
+use Rattle.laws.specs.Prelude.{ℕ, sym, refl, true, false, Bool, List, [], eqb, length, get_or}
 use Rattle.rules.specs.Lists.{same}
 use Rattle.rules.specs.Text.{digit_byte, zero_byte}
 use Rattle.rules.specs.Sheets.Fields.{good}

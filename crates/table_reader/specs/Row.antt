@@ -1,6 +1,7 @@
 -- A row, field by field.
 -- Assumes nothing.
-use Rattle.laws.specs.Prelude.{ℕ, ◌<◌, ◌≤◌, ◌+◌, ◌≡◌, ◌∙◌, sym, ap, refl, List, add-one, arith, length, get_or, take, drop, drop_of_length-le}
+use Rattle.std.specs.Prelude.{◌<◌, ◌≤◌, ◌+◌, ◌≡◌}
+use Rattle.laws.specs.Prelude.{ℕ, ◌∙◌, sym, ap, refl, List, add-one, arith, length, get_or, take, drop, drop_of_length-le}
 use Rattle.laws.specs.Prelude.{length-take-le, get_or-take, drop-cons}
 use Rattle.rules.specs.Text.{space, newline, space_byte, newline_byte}
 use Rattle.rules.specs.Sheets.Fields.{Read, read, turned_back, Reader, then, ◌>>=◌, field}

@@ -1,6 +1,7 @@
 -- The result of reading a table sheet, in the definitions.
 -- Assumes nothing.
-use Rattle.laws.specs.Prelude.{ℕ, ◌^◌, suc, ◌≡◌, List, [], take}
+use Rattle.std.specs.Prelude.{◌^◌, ◌≡◌}
+use Rattle.laws.specs.Prelude.{ℕ, suc, List, [], take}
 use Rattle.rules.specs.Sheets.Fields.{Reader, strict}
 use Rattle.rules.specs.Sheets.Sheets as sheets
 use Rattle.rules.specs.Sheets.Sheets.{Table, row_lines, table_sheet}

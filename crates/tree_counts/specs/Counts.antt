@@ -1,6 +1,7 @@
 -- Counts as the code computes and records them, for groups within the limits. They are the same for every number of inputs that has the group.
 -- Assumes nothing.
-use Rattle.laws.specs.Prelude.{ℕ, ◌<◌, ◌≤◌, ◌+◌, ◌-◌, ◌^◌, ◌*◌, ◌≡◌, ◌∙◌, refl, ap₂, ◌≢◌, ⊎_elim, ◌⊎◌, inl, inr, true, false, Bool, ◌&&◌, and-eq-true_iff}
+use Rattle.std.specs.Prelude.{◌<◌, ◌≤◌, ◌+◌, ◌-◌, ◌^◌, ◌*◌, ◌≡◌, ◌≢◌, ◌⊎◌, ◌&&◌}
+use Rattle.laws.specs.Prelude.{ℕ, ◌∙◌, refl, ap₂, ⊎_elim, inl, inr, true, false, Bool, and-eq-true_iff}
 use Rattle.laws.specs.Prelude.{List, zero-mul, mul-zero, ℕ_discrete, arith, eqb, length, get_or, set, get_or-set_same, get_or-set_other, eqb-true, eqb-false}
 use Rattle.rules.specs.Limits.{most_inputs}
 use Rattle.rules.specs.Groups.Groups.{member, size}

@@ -1,6 +1,7 @@
 -- The wiring of a number among a group's trees, as the code finds it: the split that the number falls in, then a number for each part.
 -- Assumes nothing.
-use Rattle.laws.specs.Prelude.{ℕ, ◌<◌, ◌≤◌, ◌+◌, ◌-◌, ◌^◌, suc, zero, ◌%◌, ◌/◌, ◌≡◌, ◌∙◌, sym, ap, ap₂, subst⁻¹, ◌≢◌, List, ◌++◌, zero-add, arith}
+use Rattle.std.specs.Prelude.{◌<◌, ◌≤◌, ◌+◌, ◌-◌, ◌^◌, ◌%◌, ◌/◌, ◌≡◌, ◌≢◌, ◌++◌}
+use Rattle.laws.specs.Prelude.{ℕ, suc, zero, ◌∙◌, sym, ap, ap₂, subst⁻¹, List, zero-add, arith}
 use Rattle.rules.specs.Limits.{most_inputs}
 use Rattle.rules.specs.Groups.Groups.{size}
 use Rattle.rules.specs.Nets.Wirings.{gate, Link, first_input, links_of}

@@ -1,7 +1,8 @@
 -- The splits of a group in the order of the code: by the parts of its other members, each with the first-listed input. Which splits remain, the sum
 -- of their counts, and which of them a number falls in.
 -- Assumes nothing.
-use Rattle.laws.specs.Prelude.{ℕ, ◌<◌, ◌≤◌, ◌+◌, ◌-◌, ◌^◌, ◌≡◌, ◌∙◌, sym, ap, refl, true, false, Bool, cond, List, [], ◌∷◌, map, zero-add, sub-zero, arith}
+use Rattle.std.specs.Prelude.{◌<◌, ◌≤◌, ◌+◌, ◌-◌, ◌^◌, ◌≡◌, ◌∷◌}
+use Rattle.laws.specs.Prelude.{ℕ, ◌∙◌, sym, ap, refl, true, false, Bool, cond, List, [], map, zero-add, sub-zero, arith}
 use Rattle.laws.specs.Prelude.{pow_pos}
 use Rattle.std.specs.Int.Bits.{and_self}
 use Rattle.rules.specs.Lists.{range, those, total}

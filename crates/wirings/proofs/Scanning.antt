@@ -1,7 +1,8 @@
 -- The loop of `fewest_of` over plain numbers: the parts of g that hold its first-listed input are done up to the part `part` of the others.
 -- It ends at a least that is at most a floor of all splits.
 -- Assumes nothing.
-use Rattle.laws.specs.Prelude.{ℕ, ◌<◌, ◌≤◌, ◌+◌, ◌-◌, ◌^◌, ◌≡◌, ◌∙◌, sym, refl, ⊎_elim, ◌⊎◌, inl, inr, true, and-eq-true_iff, List, ℕ_discrete, arith}
+use Rattle.std.specs.Prelude.{◌<◌, ◌≤◌, ◌+◌, ◌-◌, ◌^◌, ◌≡◌, ◌⊎◌}
+use Rattle.laws.specs.Prelude.{ℕ, ◌∙◌, sym, refl, ⊎_elim, inl, inr, true, and-eq-true_iff, List, ℕ_discrete, arith}
 use Rattle.laws.specs.Prelude.{ne_cases}
 use lib.Bits.{and_self}
 use Rattle.rules.specs.Groups.Marks.{parts_at}

@@ -1,6 +1,7 @@
 -- What the search for the shallowest split looks for: the A that keeps its group shallowest.
 -- Assumes nothing.
-use Rattle.laws.specs.Prelude.{ℕ, ap, Bool, ◌&&◌, and-eq-true_iff, List, eqb, get_or}
+use Rattle.std.specs.Prelude.{◌&&◌}
+use Rattle.laws.specs.Prelude.{ℕ, ap, Bool, and-eq-true_iff, List, eqb, get_or}
 use Rattle.rules.specs.Nets.Shallow.{split_layers}
 use Rattle.trees.specs.Trees.MarkTwo.{is_a}
 use Rattle.marks.specs.FirstParts.{both_two, Looked, settled_looked}

@@ -1,6 +1,7 @@
 -- A group's links added to a wiring, for any choice of parts: those of its parts, then its own.
 -- Assumes nothing.
-use Rattle.laws.specs.Prelude.{ℕ, ◌<◌, ◌≤◌, ◌+◌, ◌-◌, ◌^◌, suc, zero, ◌≡◌, refl, subst⁻¹, ◌≢◌, true, arith, eq-eqb, ne_eqb}
+use Rattle.std.specs.Prelude.{◌<◌, ◌≤◌, ◌+◌, ◌-◌, ◌^◌, ◌≡◌, ◌≢◌}
+use Rattle.laws.specs.Prelude.{ℕ, suc, zero, refl, subst⁻¹, true, arith, eq-eqb, ne_eqb}
 use Rattle.rules.specs.Groups.Groups.{size}
 use Rattle.rules.specs.Groups.Marks.{inside}
 use Rattle.rules.specs.Nets.Wirings.{input, gate, first_input, wiring_by}

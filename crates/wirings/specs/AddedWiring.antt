@@ -1,6 +1,7 @@
 -- The links of any wiring added to others: those of its left side, those of its right side, its own.
 -- Assumes nothing.
-use Rattle.laws.specs.Prelude.{ℕ, ◌+◌, ◌≡◌, ◌∙◌, sym, ap, refl, ap₂, List, [], ◌∷◌, ◌++◌, append_assoc, append-nil, arith}
+use Rattle.std.specs.Prelude.{◌+◌, ◌≡◌, ◌∷◌, ◌++◌}
+use Rattle.laws.specs.Prelude.{ℕ, ◌∙◌, sym, ap, refl, ap₂, List, [], append_assoc, append-nil, arith}
 use Rattle.rules.specs.Nets.Wirings.{input, gate, Link, gates_in, reference_to, links_of}
 use Rattle.rules.specs.Nets.Wirings as rules
 use Rattle.wirings.specs.declared.forms.Wiring.{Wiring}

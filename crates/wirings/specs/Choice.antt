@@ -1,6 +1,7 @@
 -- Which part of a group a choice takes as A, and what the choice needs.
 -- Assumes nothing.
-use Rattle.laws.specs.Prelude.{ℕ, ◌<◌, ◌≤◌, List, lt_of_le_of_lt, length}
+use Rattle.std.specs.Prelude.{◌<◌, ◌≤◌}
+use Rattle.laws.specs.Prelude.{ℕ, List, lt_of_le_of_lt, length}
 use Rattle.rules.specs.Nets.Settled.{split_of}
 use Rattle.rules.specs.Nets.Shallow.{shallow_split}
 use Rattle.wirings.specs.declared.choice.Choice.{Choice}

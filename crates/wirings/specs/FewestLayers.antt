@@ -1,8 +1,9 @@
 -- The fewest layers of the groups of mark 2 as the code finds them. It tries only the parts that hold a group's first-listed input, because
 -- exchanging a part and the rest gives the same layers. It reads only the groups of mark 2, because no other group is a part.
 -- Assumes nothing.
-use Rattle.laws.specs.Prelude.{ℕ, ◌<◌, ◌≤◌, ◌+◌, ◌-◌, ◌^◌, suc, zero, ◌≡◌, ◌∙◌, sym, ap, refl, ⊎_elim, ◌⊎◌, true, false, Bool, ◌&&◌, and-eq-true_iff, List}
-use Rattle.laws.specs.Prelude.{[], ◌∷◌, ◌++◌, map, Memᴰ, mem_not_nil, mem_of_map, mem_map, le_trans, le_of_eq, le_antisymm, dec_lt, ℕ_discrete}
+use Rattle.std.specs.Prelude.{◌<◌, ◌≤◌, ◌+◌, ◌-◌, ◌^◌, ◌≡◌, ◌⊎◌, ◌&&◌, ◌∷◌, ◌++◌}
+use Rattle.laws.specs.Prelude.{ℕ, suc, zero, ◌∙◌, sym, ap, refl, ⊎_elim, true, false, Bool, and-eq-true_iff, List}
+use Rattle.laws.specs.Prelude.{[], map, Memᴰ, mem_not_nil, mem_of_map, mem_map, le_trans, le_of_eq, le_antisymm, dec_lt, ℕ_discrete}
 use Rattle.laws.specs.Prelude.{arith, eqb, length, get_or, set, length-map, get_or-set_same, get_or-set_other, eq-eqb, ne_eqb}
 use Rattle.std.specs.Int.Bits.{and_le_r}
 use Rattle.rules.specs.Lists.{range, those}

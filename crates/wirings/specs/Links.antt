@@ -1,6 +1,7 @@
 -- What a wiring by value represents: its links, in the order of the gates.
 -- Assumes nothing.
-use Rattle.laws.specs.Prelude.{ℕ, ◌<◌, ◌+◌, ◌-◌, ◌≡◌, ◌∙◌, ap, refl, ap₂, List, [], ◌∷◌, ◌++◌, map, zero-add, add-one, arith, length, get_or, set, replicate}
+use Rattle.std.specs.Prelude.{◌<◌, ◌+◌, ◌-◌, ◌≡◌, ◌∷◌, ◌++◌}
+use Rattle.laws.specs.Prelude.{ℕ, ◌∙◌, ap, refl, ap₂, List, [], map, zero-add, add-one, arith, length, get_or, set, replicate}
 use Rattle.laws.specs.Prelude.{get_or-set_same, get_or-set_other}
 use Rattle.rules.specs.Lists.{range}
 use Rattle.rules.specs.Limits.{most_inputs}

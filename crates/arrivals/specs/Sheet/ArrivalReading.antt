@@ -1,6 +1,7 @@
 -- The result of reading an arrival sheet.
 -- Assumes nothing.
-use Rattle.laws.specs.Prelude.{ℕ, ◌≡◌, ◌∙◌, ap, List, [], length, drop}
+use Rattle.std.specs.Prelude.{◌≡◌}
+use Rattle.laws.specs.Prelude.{ℕ, ◌∙◌, ap, List, [], length, drop}
 use Rattle.rules.specs.Text.{space, newline, text}
 use Rattle.rules.specs.Sheets.Fields.{Reader, ◌>>=◌, give, the_word, closed}
 use Rattle.rules.specs.Sheets.Reading.{answered}

@@ -1,6 +1,7 @@
 -- One line, field by field.
 -- Assumes nothing.
-use Rattle.laws.specs.Prelude.{ℕ, ◌≤◌, ◌≡◌, refl, ◌&&◌, and-eq-true_iff, List, leb, drop, leb-true}
+use Rattle.std.specs.Prelude.{◌≤◌, ◌≡◌, ◌&&◌}
+use Rattle.laws.specs.Prelude.{ℕ, refl, and-eq-true_iff, List, leb, drop, leb-true}
 use Rattle.rules.specs.Text.{space, newline, newline_byte, value_of, is_decimal}
 use Rattle.rules.specs.Limits.{most_time}
 use Rattle.rules.specs.Sheets.Fields.{Reader, ◌>>=◌, give, field, run}

@@ -1,6 +1,7 @@
 -- The lines, one after the other.
 -- Assumes nothing.
-use Rattle.laws.specs.Prelude.{ℕ, ◌<◌, ◌≤◌, ◌+◌, ◌≡◌, ◌∙◌, sym, ap, refl, ap₂, true, false, Bool, List, [], ◌∷◌, ◌++◌, map, zero-add, add-one, arith, eqb}
+use Rattle.std.specs.Prelude.{◌<◌, ◌≤◌, ◌+◌, ◌≡◌, ◌∷◌, ◌++◌}
+use Rattle.laws.specs.Prelude.{ℕ, ◌∙◌, sym, ap, refl, ap₂, true, false, Bool, List, [], map, zero-add, add-one, arith, eqb}
 use Rattle.laws.specs.Prelude.{length, get_or, drop, set, length-set, replicate, drop_of_length-le, get_or-set_same, get_or-set_other, drop-cons, eqb-true}
 use Rattle.laws.specs.Prelude.{eqb-false}
 use Rattle.rules.specs.Lists.{range}

@@ -1,6 +1,7 @@
 -- A time, by its length, its first byte and its digits.
 -- Assumes nothing.
-use Rattle.laws.specs.Prelude.{ℕ, ◌<◌, ◌≤◌, ◌+◌, ◌-◌, ◌^◌, ◌*◌, ◌≡◌, ◌∙◌, sym, ap, refl, true, false, Bool, ◌&&◌, not, true≢false, and-eq-true_iff, ◌||◌}
+use Rattle.std.specs.Prelude.{◌<◌, ◌≤◌, ◌+◌, ◌-◌, ◌^◌, ◌*◌, ◌≡◌, ◌&&◌, ◌||◌}
+use Rattle.laws.specs.Prelude.{ℕ, ◌∙◌, sym, ap, refl, true, false, Bool, not, true≢false, and-eq-true_iff}
 use Rattle.laws.specs.Prelude.{and-false, List, pow-suc, pow-le-pow_right, lt_of_lt_of_le, add-one, dec_lt, arith, eqb, leb, length, get_or, drop}
 use Rattle.laws.specs.Prelude.{drop_of_length-le, eqb-true, le-ltb, eqb-false, not-true, le-leb, lt-leb, leb-true, leb-false}
 use Rattle.std.proofs.Math.Option.{Option, none, some}

@@ -1,6 +1,7 @@
 -- A job's answer for a group, as the call for C returns it. The two numbers determine the answer.
 -- Assumes nothing.
-use Rattle.laws.specs.Prelude.{ℕ, ◌^◌, ◌≡◌, refl, true, false, ◌||◌, eqb, leb}
+use Rattle.std.specs.Prelude.{◌^◌, ◌≡◌, ◌||◌}
+use Rattle.laws.specs.Prelude.{ℕ, refl, true, false, eqb, leb}
 use Rattle.rules.specs.Calls.Answers.{Answer, accepted, refused}
 use Rattle.rules.specs.Calls.Jobs.{Job, Reached, final, not_reached, reached_in, ask_job}
 use Rattle.laws.specs.Calls.Answers.{not_refused}

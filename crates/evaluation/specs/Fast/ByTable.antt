@@ -1,6 +1,7 @@
 -- A net at many assignments, by its table: the index of each assignment, input by input, and the cell there.
 -- Assumes nothing.
-use Rattle.laws.specs.Prelude.{ℕ, ◌<◌, ◌≤◌, ◌+◌, ◌^◌, ◌*◌, ◌≡◌, ◌∙◌, sym, ap, refl, ap₂, List, [], ◌∷◌, ◌++◌, zero-add, mul-le-mul_right, one-mul}
+use Rattle.std.specs.Prelude.{◌<◌, ◌≤◌, ◌+◌, ◌^◌, ◌*◌, ◌≡◌, ◌∷◌, ◌++◌}
+use Rattle.laws.specs.Prelude.{ℕ, ◌∙◌, sym, ap, refl, ap₂, List, [], zero-add, mul-le-mul_right, one-mul}
 use Rattle.laws.specs.Prelude.{pow-le-pow_right, add-one, arith, length, get_or, get_or-take}
 use Rattle.rules.specs.Limits.{most_cells}
 use Rattle.laws.specs.Lists.Ranges.{map_range_at, map_range_length, map_range_suc}

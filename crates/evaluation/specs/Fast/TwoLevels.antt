@@ -1,6 +1,7 @@
 -- The digits of a gate of two levels.
 -- Assumes nothing.
-use Rattle.laws.specs.Prelude.{ℕ, ◌<◌, ◌+◌, suc, ◌*◌, zero, ◌≡◌, ap, List, [], ◌∷◌, arith, get_or}
+use Rattle.std.specs.Prelude.{◌<◌, ◌+◌, ◌*◌, ◌≡◌, ◌∷◌}
+use Rattle.laws.specs.Prelude.{ℕ, suc, zero, ap, List, [], arith, get_or}
 
 -- a gate's four digits, of two levels
 pub four_digits : (digits : List ℕ) (from l r : ℕ) → l < 2 → r < 2

@@ -1,6 +1,7 @@
 -- A net's table, from the two lists of its last gate: each pair's value goes to the cells of all assignments that agree with the pair's in the gate's group.
 -- Assumes nothing.
-use Rattle.laws.specs.Prelude.{ℕ, ◌<◌, ◌≤◌, ◌+◌, ◌-◌, ◌^◌, ◌≡◌, ◌∙◌, sym, ap, refl, ap₂, Bool, cond, inl, inr, List, [], ◌∷◌, ◌++◌, zero-add, ◌*◌}
+use Rattle.std.specs.Prelude.{◌<◌, ◌≤◌, ◌+◌, ◌-◌, ◌^◌, ◌≡◌, ◌∷◌, ◌++◌, ◌*◌}
+use Rattle.laws.specs.Prelude.{ℕ, ◌∙◌, sym, ap, refl, ap₂, Bool, cond, inl, inr, List, [], zero-add}
 use Rattle.laws.specs.Prelude.{arith, ltb, length, get_or, take, drop, length-drop, take-append-drop, length-take-le, get_or-take, ext_get_or}
 use Rattle.laws.specs.Prelude.{get_or-drop, lt-ltb, le-ltb, mul-le-mul, pow-le-pow_right}
 use Rattle.rules.specs.Groups.Groups.{part, whole_group, others, points}

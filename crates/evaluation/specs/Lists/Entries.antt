@@ -1,6 +1,7 @@
 -- A wire's list: its entry for every assignment. An entry is 16 times the assignment's part in the wire's group, plus the wire's value there.
 -- Assumes nothing.
-use Rattle.laws.specs.Prelude.{ℕ, ◌<◌, ◌≤◌, ◌+◌, ◌-◌, ◌^◌, ◌*◌, ◌%◌, ◌/◌, ◌≡◌, ◌∙◌, sym, ap, ap₂, true, false, List, mod-lt, div-lt_iff_lt-mul, mul-one, ◌⊎◌}
+use Rattle.std.specs.Prelude.{◌<◌, ◌≤◌, ◌+◌, ◌-◌, ◌^◌, ◌*◌, ◌%◌, ◌/◌, ◌≡◌, ◌⊎◌}
+use Rattle.laws.specs.Prelude.{ℕ, ◌∙◌, sym, ap, ap₂, true, false, List, mod-lt, div-lt_iff_lt-mul, mul-one}
 use Rattle.laws.specs.Prelude.{inl, inr, add_comm, mul_comm, one-le-pow, mul_assoc, mod-eq_of_lt, mul-add, mul-div_cancel, arith, length, get_or, digits_lt}
 use Rattle.laws.specs.Prelude.{digits_mod, digits_div, div-add-mod'}
 use Rattle.rules.specs.Limits.{most_levels}

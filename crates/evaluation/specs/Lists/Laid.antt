@@ -1,6 +1,7 @@
 -- The lists of a net's wires, one after the other: what is required, what is promised, and the step to the next input and the next gate.
 -- Assumes nothing.
-use Rattle.laws.specs.Prelude.{ℕ, ◌<◌, ◌≤◌, ◌+◌, ◌-◌, ◌^◌, suc, ◌*◌, ◌/◌, ◌≡◌, ◌∙◌, sym, ap, subst, List, pow-suc, pow-le-pow_right, mul-div_cancel}
+use Rattle.std.specs.Prelude.{◌<◌, ◌≤◌, ◌+◌, ◌-◌, ◌^◌, ◌*◌, ◌/◌, ◌≡◌}
+use Rattle.laws.specs.Prelude.{ℕ, suc, ◌∙◌, sym, ap, subst, List, pow-suc, pow-le-pow_right, mul-div_cancel}
 use Rattle.laws.specs.Prelude.{mul-le-mul_right, suc-mul, mul_comm, mul-one, one-le-pow, mul_assoc, mul-le-mul_left, mul-add, ℕ_discrete, arith, length, get_or}
 use Rattle.laws.specs.Prelude.{set, length-set, get_or-set_same, get_or-set_other}
 use Rattle.rules.specs.Limits.{most_cells}

@@ -1,6 +1,7 @@
 -- Values written to cells, in any order: one cell, a row of cells, and the cells for all pairs of a gate's two lists.
 -- Assumes nothing.
-use Rattle.laws.specs.Prelude.{ℕ, ◌<◌, ◌≤◌, ◌+◌, ◌*◌, ◌%◌, ◌/◌, ◌≡◌, ◌∙◌, sym, refl, subst, ◌⊎◌, inl, inr, List, ℕ_discrete, arith, length, get_or, set}
+use Rattle.std.specs.Prelude.{◌<◌, ◌≤◌, ◌+◌, ◌*◌, ◌%◌, ◌/◌, ◌≡◌, ◌⊎◌}
+use Rattle.laws.specs.Prelude.{ℕ, ◌∙◌, sym, refl, subst, inl, inr, List, ℕ_discrete, arith, length, get_or, set}
 use Rattle.laws.specs.Prelude.{length-set, get_or-set_same, get_or-set_other}
 use Rattle.rules.specs.Limits.{most_levels, most_cells}
 use Rattle.evaluation.specs.declared.lists.order.Span.{Span}

@@ -1,6 +1,7 @@
 -- A gate at every pair of an entry of its outer list and one of its inner list. An entry is 16 times an assignment plus a value.
 -- Assumes nothing.
-use Rattle.laws.specs.Prelude.{ℕ, ◌<◌, ◌≤◌, ◌+◌, ◌*◌, ◌%◌, ◌/◌, ◌≡◌, ◌∙◌, ap, ap₂, refl, List, mul-le-mul_right, suc-mul, mul-le-mul, add-one, ℕ_discrete}
+use Rattle.std.specs.Prelude.{◌<◌, ◌≤◌, ◌+◌, ◌*◌, ◌%◌, ◌/◌, ◌≡◌}
+use Rattle.laws.specs.Prelude.{ℕ, ◌∙◌, ap, ap₂, refl, List, mul-le-mul_right, suc-mul, mul-le-mul, add-one, ℕ_discrete}
 use Rattle.laws.specs.Prelude.{arith, length, get_or, digits_lt}
 use Rattle.rules.specs.Limits.{most_levels}
 use Rattle.evaluation.specs.declared.lists.order.Span.{Span}

@@ -1,6 +1,7 @@
 -- A run of cells is overwritten, and all others are unchanged.
 -- Assumes nothing.
-use Rattle.laws.specs.Prelude.{ℕ, ◌<◌, ◌≤◌, ◌+◌, ◌≡◌, ◌∙◌, sym, refl, List, ℕ_discrete, arith, length, get_or, set, length-set, get_or-set_same}
+use Rattle.std.specs.Prelude.{◌<◌, ◌≤◌, ◌+◌, ◌≡◌}
+use Rattle.laws.specs.Prelude.{ℕ, ◌∙◌, sym, refl, List, ℕ_discrete, arith, length, get_or, set, length-set, get_or-set_same}
 use Rattle.laws.specs.Prelude.{get_or-set_other}
 
 -- the `count` cells from `at` on are the values of f, and the others are unchanged

@@ -1,6 +1,7 @@
 -- A net's wires: the group, the value, and the place and number of entries of each.
 -- Assumes nothing.
-use Rattle.laws.specs.Prelude.{ℕ, ◌<◌, ◌≤◌, ◌+◌, ◌-◌, ◌^◌, suc, ◌*◌, zero, ◌≡◌, ◌∙◌, sym, ap, ap₂, List, [], ◌∷◌, map, zero-add, add-zero, pow-suc, pow-zero}
+use Rattle.std.specs.Prelude.{◌<◌, ◌≤◌, ◌+◌, ◌-◌, ◌^◌, ◌*◌, ◌≡◌, ◌∷◌}
+use Rattle.laws.specs.Prelude.{ℕ, suc, zero, ◌∙◌, sym, ap, ap₂, List, [], map, zero-add, add-zero, pow-suc, pow-zero}
 use Rattle.laws.specs.Prelude.{pow-le-pow_right, mul-le-mul, mul-one, add_assoc, add-mul, zero-mul, suc-mul, one-mul, mul-le-mul_left, add-one, arith, length}
 use Rattle.laws.specs.Prelude.{get_or, drop, get_or-take, get_or-drop, digits_lt, pow-add}
 use Rattle.rules.specs.Lists.{range, total}

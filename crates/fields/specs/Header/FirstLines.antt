@@ -1,6 +1,7 @@
 -- The first three lines, field by field.
 -- Assumes nothing.
-use Rattle.laws.specs.Prelude.{ℕ, ◌≤◌, ◌≡◌, ◌∙◌, refl, true, List, [], drop, le-leb}
+use Rattle.std.specs.Prelude.{◌≤◌, ◌≡◌}
+use Rattle.laws.specs.Prelude.{ℕ, ◌∙◌, refl, true, List, [], drop, le-leb}
 use Rattle.rules.specs.Text.{space, newline, text}
 use Rattle.rules.specs.Limits.{levels_fit, inputs_fit, cells_fit_of, size_fits, fewest_inputs, most_inputs}
 use Rattle.rules.specs.Sheets.Fields.{Reader, ◌>>=◌, give, field_in, the_word, Layout}

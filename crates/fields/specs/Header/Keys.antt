@@ -1,6 +1,7 @@
 -- The key of a short byte string: its bytes as one number. Strings of one length with one key are the same.
 -- Assumes nothing.
-use Rattle.laws.specs.Prelude.{ℕ, ◌<◌, ◌≤◌, ◌+◌, ◌-◌, ◌^◌, suc, ◌*◌, zero, ◌≡◌, ◌∙◌, sym, ap, refl, ap₂, true, false, Bool, List, [], ◌∷◌}
+use Rattle.std.specs.Prelude.{◌<◌, ◌≤◌, ◌+◌, ◌-◌, ◌^◌, ◌*◌, ◌≡◌, ◌∷◌}
+use Rattle.laws.specs.Prelude.{ℕ, suc, zero, ◌∙◌, sym, ap, refl, ap₂, true, false, Bool, List, []}
 use Rattle.laws.specs.Prelude.{pow-le-pow_right, pow-succ', arith, eqb, length, get_or, drop, eqb-true, eqb-false}
 use Rattle.rules.specs.Lists.{same}
 use Rattle.rules.specs.Limits.{most_name_bytes}

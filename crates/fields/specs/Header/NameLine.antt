@@ -1,6 +1,7 @@
 -- Line 3, name by name; the first three lines.
 -- Assumes nothing.
-use Rattle.laws.specs.Prelude.{ℕ, ◌<◌, ◌≤◌, ◌+◌, ◌-◌, suc, zero, ◌≡◌, ◌∙◌, sym, ap, refl, true, false, Bool, List, [], ◌∷◌, ◌++◌, map, zero-add, sub-zero}
+use Rattle.std.specs.Prelude.{◌<◌, ◌≤◌, ◌+◌, ◌-◌, ◌≡◌, ◌∷◌, ◌++◌}
+use Rattle.laws.specs.Prelude.{ℕ, suc, zero, ◌∙◌, sym, ap, refl, true, false, Bool, List, [], map, zero-add, sub-zero}
 use Rattle.laws.specs.Prelude.{add-one, arith, eqb, length, get_or, take, drop, set, length-set, get_or-set_same, get_or-set_other, eqb-true, eqb-false}
 use Rattle.laws.specs.Lists.Concat.{map-append}
 use Rattle.laws.specs.Lists.Ranges.{range_suc, map_range_same}

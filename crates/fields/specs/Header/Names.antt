@@ -1,6 +1,7 @@
 -- A name's bytes, one by one; a name that is new.
 -- Assumes nothing.
-use Rattle.laws.specs.Prelude.{ℕ, ◌<◌, ◌≤◌, ◌+◌, ◌≡◌, ◌∙◌, refl, by_cases, true, false, Bool, ◌&&◌, not, and-eq-true_iff, ◌||◌, false≢true, List, [], ◌∷◌}
+use Rattle.std.specs.Prelude.{◌<◌, ◌≤◌, ◌+◌, ◌≡◌, ◌&&◌, ◌||◌, ◌∷◌}
+use Rattle.laws.specs.Prelude.{ℕ, ◌∙◌, refl, by_cases, true, false, Bool, not, and-eq-true_iff, false≢true, List, []}
 use Rattle.laws.specs.Prelude.{lt_of_not-le, dec_le, arith, ltb, leb, length, get_or, lt-ltb, le-ltb, le-leb, lt-leb}
 use Rattle.rules.specs.Lists.{all, any, same}
 use Rattle.rules.specs.Text.{is_digit, text, zero_byte}

@@ -1,6 +1,7 @@
 -- Two headers compared, name by name.
 -- Assumes nothing.
-use Rattle.laws.specs.Prelude.{ℕ, ◌<◌, ◌≤◌, ◌+◌, ◌-◌, ◌≡◌, ap, true, false, Bool, and-false, List, map, eq-eqb, ne_eqb}
+use Rattle.std.specs.Prelude.{◌<◌, ◌≤◌, ◌+◌, ◌-◌, ◌≡◌}
+use Rattle.laws.specs.Prelude.{ℕ, ap, true, false, Bool, and-false, List, map, eq-eqb, ne_eqb}
 use Rattle.rules.specs.Lists.{range, same}
 use Rattle.rules.specs.Calls.Checking.{same_names_of, same_header}
 use Rattle.laws.specs.Lists.Ranges.{range_next, range_none}

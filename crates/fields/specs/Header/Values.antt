@@ -1,6 +1,7 @@
 -- The levels field, by its byte; the inputs field, by the number whose decimal value it is.
 -- Assumes nothing.
-use Rattle.laws.specs.Prelude.{ℕ, ◌<◌, ◌≤◌, ◌+◌, ◌-◌, ◌^◌, ◌≡◌, ◌∙◌, sym, ap, refl, and-false, List, [], ◌∷◌, arith, length, get_or, lt-ltb, le-ltb, le-leb}
+use Rattle.std.specs.Prelude.{◌<◌, ◌≤◌, ◌+◌, ◌-◌, ◌^◌, ◌≡◌, ◌∷◌}
+use Rattle.laws.specs.Prelude.{ℕ, ◌∙◌, sym, ap, refl, and-false, List, [], arith, length, get_or, lt-ltb, le-ltb, le-leb}
 use Rattle.laws.specs.Prelude.{lt-leb}
 use Rattle.std.proofs.Math.Option.{some}
 use Rattle.rules.specs.Text.{is_digit, zero_byte}

@@ -1,6 +1,7 @@
 -- The layout of a row, place by place: the bytes that fit there, and the weight of a level there in the index.
 -- Assumes nothing.
-use Rattle.laws.specs.Prelude.{ℕ, ◌<◌, ◌≤◌, ◌+◌, ◌-◌, ◌^◌, ◌≡◌, List, length, get_or}
+use Rattle.std.specs.Prelude.{◌<◌, ◌≤◌, ◌+◌, ◌-◌, ◌^◌, ◌≡◌}
+use Rattle.laws.specs.Prelude.{ℕ, List, length, get_or}
 use Rattle.rules.specs.Limits.{most_cells}
 
 -- the most places of a row that are compared, and the numbers of a frame

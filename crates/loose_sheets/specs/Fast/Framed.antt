@@ -1,6 +1,7 @@
 -- A row that matches its frame is read in one step: the weights of its levels sum to its index.
 -- Assumes nothing.
-use Rattle.laws.specs.Prelude.{ℕ, ◌<◌, ◌≤◌, ◌+◌, ◌-◌, ◌^◌, suc, ◌*◌, ◌%◌, ◌≡◌, ◌∙◌, sym, ap, refl, true, List, zero-mul, pow-zero, mul-one, mul_assoc, add-mul}
+use Rattle.std.specs.Prelude.{◌<◌, ◌≤◌, ◌+◌, ◌-◌, ◌^◌, ◌*◌, ◌%◌, ◌≡◌}
+use Rattle.laws.specs.Prelude.{ℕ, suc, ◌∙◌, sym, ap, refl, true, List, zero-mul, pow-zero, mul-one, mul_assoc, add-mul}
 use Rattle.laws.specs.Prelude.{mul-zero, pow-succ', arith, length, get_or, drop}
 use Rattle.rules.specs.Text.{zero_byte, space_byte}
 use Rattle.rules.specs.Limits.{size_fits, most_levels}

@@ -1,6 +1,7 @@
 -- A row is laid out place by place, over places that have no weight yet.
 -- Assumes nothing.
-use Rattle.laws.specs.Prelude.{ℕ, ◌<◌, ◌≤◌, ◌+◌, ◌-◌, ◌^◌, ◌≡◌, ◌∙◌, refl, subst, true, false, Bool, List, arith, length, get_or, set, length-set, ◌≢◌}
+use Rattle.std.specs.Prelude.{◌<◌, ◌≤◌, ◌+◌, ◌-◌, ◌^◌, ◌≡◌, ◌≢◌}
+use Rattle.laws.specs.Prelude.{ℕ, ◌∙◌, refl, subst, true, false, Bool, List, arith, length, get_or, set, length-set}
 use Rattle.laws.specs.Prelude.{get_or-set_same, get_or-set_other, eqb, eqb-true, eqb-false}
 use Rattle.rules.specs.Limits.{most_cells}
 use Rattle.loose_sheets.specs.Fast.Frame.{most_laid, frame_length, PlaceAt, LevelAt, LooseLaid, laid_none, laid_space, laid_level, Framed}

@@ -1,6 +1,7 @@
 -- A row matches its frame, and its bytes have a weighted sum.
 -- Assumes nothing.
-use Rattle.laws.specs.Prelude.{ℕ, ◌<◌, ◌≤◌, ◌+◌, suc, ◌*◌, zero, ◌%◌, ◌/◌, ◌^◌, ◌≡◌, ◌∙◌, ap, refl, true, false, Bool, List, mul-zero, add-one, arith, ltb}
+use Rattle.std.specs.Prelude.{◌<◌, ◌≤◌, ◌+◌, ◌*◌, ◌%◌, ◌/◌, ◌^◌, ◌≡◌}
+use Rattle.laws.specs.Prelude.{ℕ, suc, zero, ◌∙◌, ap, refl, true, false, Bool, List, mul-zero, add-one, arith, ltb}
 use Rattle.laws.specs.Prelude.{length, get_or, ltb-true, ltb-false}
 use Rattle.rules.specs.Text.{space_byte}
 use Rattle.loose_sheets.specs.Fast.Frame.{most_laid}

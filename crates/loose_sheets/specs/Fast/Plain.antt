@@ -1,6 +1,7 @@
 -- A digit with its separator right after it, as a field of a loose sheet.
 -- Assumes nothing.
-use Rattle.laws.specs.Prelude.{ℕ, ◌<◌, ◌+◌, ◌≡◌, ◌∙◌, sym, ap, refl, true, List, [], ◌∷◌, arith, drop}
+use Rattle.std.specs.Prelude.{◌<◌, ◌+◌, ◌≡◌, ◌∷◌}
+use Rattle.laws.specs.Prelude.{ℕ, ◌∙◌, sym, ap, refl, true, List, [], arith, drop}
 use Rattle.rules.specs.Text.{zero_byte, space_byte, newline_byte}
 use Rattle.rules.specs.Sheets.Fields.{read, Judge, good, is_separator, separator, loose_separator, after_field_in, field_of_in, field_in, loose}
 use Rattle.rules.specs.Sheets.Sheets.{ink_field}

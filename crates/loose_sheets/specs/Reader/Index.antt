@@ -1,6 +1,7 @@
 -- The input fields of a row, one after the other: the index of its assignment.
 -- Assumes nothing.
-use Rattle.laws.specs.Prelude.{ℕ, ◌<◌, ◌≤◌, ◌+◌, ◌-◌, ◌^◌, suc, ◌*◌, ◌≡◌, ◌∙◌, sym, ap, refl, List, sub-zero, pow-zero, pow-le-pow_right, lt_of_lt_of_le}
+use Rattle.std.specs.Prelude.{◌<◌, ◌≤◌, ◌+◌, ◌-◌, ◌^◌, ◌*◌, ◌≡◌}
+use Rattle.laws.specs.Prelude.{ℕ, suc, ◌∙◌, sym, ap, refl, List, sub-zero, pow-zero, pow-le-pow_right, lt_of_lt_of_le}
 use Rattle.laws.specs.Prelude.{mul_comm, pow-succ', add-one, arith, drop, digits_lt}
 use Rattle.rules.specs.Text.{space, space_byte}
 use Rattle.rules.specs.Sheets.Fields.{then, field_in, loose}

@@ -1,6 +1,7 @@
 -- An input field: one digit below m.
 -- Assumes nothing.
-use Rattle.laws.specs.Prelude.{ℕ, ◌<◌, ◌+◌, ◌≡◌, ◌∙◌, sym, refl, List, [], ◌∷◌}
+use Rattle.std.specs.Prelude.{◌<◌, ◌+◌, ◌≡◌, ◌∷◌}
+use Rattle.laws.specs.Prelude.{ℕ, ◌∙◌, sym, refl, List, []}
 use Rattle.rules.specs.Text.{zero_byte}
 use Rattle.rules.specs.Sheets.Fields.{good}
 use Rattle.rules.specs.Sheets.LooseSheet.{any_level}

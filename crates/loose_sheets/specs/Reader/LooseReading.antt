@@ -1,6 +1,7 @@
 -- The result of reading a loose table sheet, in the definitions.
 -- Assumes nothing.
-use Rattle.laws.specs.Prelude.{ℕ, ◌^◌, ◌≡◌, List, []}
+use Rattle.std.specs.Prelude.{◌^◌, ◌≡◌}
+use Rattle.laws.specs.Prelude.{ℕ, List, []}
 use Rattle.rules.specs.Sheets.Fields.{Reader, loose}
 use Rattle.rules.specs.Sheets.Sheets as sheets
 use Rattle.rules.specs.Sheets.LooseSheet.{Row, LooseTable, loose_rows, loose_sheet, read_loose}

@@ -1,6 +1,7 @@
 -- A row of a loose sheet.
 -- Assumes nothing.
-use Rattle.laws.specs.Prelude.{ℕ, ◌<◌, ◌≤◌, ◌^◌, ◌≡◌, ◌∙◌, sym, ap, refl, true, false, List, arith, get_or, drop}
+use Rattle.std.specs.Prelude.{◌<◌, ◌≤◌, ◌^◌, ◌≡◌}
+use Rattle.laws.specs.Prelude.{ℕ, ◌∙◌, sym, ap, refl, true, false, List, arith, get_or, drop}
 use Rattle.rules.specs.Lists.{any}
 use Rattle.rules.specs.Text.{newline, newline_byte}
 use Rattle.rules.specs.Sheets.Fields.{Read, read, turned_back, Reader, then, ◌>>=◌, give, field_in, loose}

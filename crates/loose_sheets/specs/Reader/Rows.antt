@@ -1,6 +1,7 @@
 -- The rows of a loose sheet, one after the other.
 -- Assumes nothing.
-use Rattle.laws.specs.Prelude.{ℕ, ◌<◌, ◌≤◌, ◌+◌, ◌-◌, ◌^◌, suc, zero, ◌≡◌, ◌∙◌, sym, ap, refl, true, false, Bool, List, [], ◌∷◌, ◌++◌, map, zero-add}
+use Rattle.std.specs.Prelude.{◌<◌, ◌≤◌, ◌+◌, ◌-◌, ◌^◌, ◌≡◌, ◌∷◌, ◌++◌}
+use Rattle.laws.specs.Prelude.{ℕ, suc, zero, ◌∙◌, sym, ap, refl, true, false, Bool, List, [], map, zero-add}
 use Rattle.laws.specs.Prelude.{sub-zero, arith, eqb, length, get_or, take, drop, set, replicate, get_or-set_same, get_or-set_other, length-take-le, get_or-take}
 use Rattle.laws.specs.Prelude.{ext_get_or, eq-eqb, eqb-true, eqb-false}
 use Rattle.std.proofs.Math.Option.{some}

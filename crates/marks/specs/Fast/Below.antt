@@ -1,6 +1,7 @@
 -- The mark of a group from what is recorded for it, and what is known afterwards.
 -- Assumes nothing.
-use Rattle.laws.specs.Prelude.{ℕ, ◌<◌, ◌≤◌, ◌+◌, ◌-◌, ◌^◌, ◌*◌, ◌≡◌, ◌∙◌, sym, ap, subst, subst⁻¹, true, cond, List, mul-le-mul, dec_lt, arith, eqb, get_or}
+use Rattle.std.specs.Prelude.{◌<◌, ◌≤◌, ◌+◌, ◌-◌, ◌^◌, ◌*◌, ◌≡◌}
+use Rattle.laws.specs.Prelude.{ℕ, ◌∙◌, sym, ap, subst, subst⁻¹, true, cond, List, mul-le-mul, dec_lt, arith, eqb, get_or}
 use Rattle.laws.specs.Prelude.{pow_mono, pow_pos}
 use Rattle.std.specs.Int.Bits.{bit_and}
 use Rattle.std.proofs.lemmas.Nat.{and_le_l}

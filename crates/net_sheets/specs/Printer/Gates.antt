@@ -1,6 +1,7 @@
 -- A net's gates: what printing them requires, and the lines printed.
 -- Assumes nothing.
-use Rattle.laws.specs.Prelude.{ℕ, ◌<◌, ◌≤◌, ◌+◌, ◌-◌, ◌*◌, ◌≡◌, ◌∙◌, ap, List, [], ◌∷◌, ◌++◌, map, append_assoc, zero-add, sub-zero, mul-le-mul_right}
+use Rattle.std.specs.Prelude.{◌<◌, ◌≤◌, ◌+◌, ◌-◌, ◌*◌, ◌≡◌, ◌∷◌, ◌++◌}
+use Rattle.laws.specs.Prelude.{ℕ, ◌∙◌, ap, List, [], map, append_assoc, zero-add, sub-zero, mul-le-mul_right}
 use Rattle.laws.specs.Prelude.{arith, length, get_or, drop, length-take, get_or-take, get_or-drop, lt-ltb, le-ltb}
 use Rattle.rules.specs.Lists.{range, concat_map}
 use Rattle.rules.specs.Limits.{most_inputs}

@@ -1,6 +1,7 @@
 -- A net that keeps the rules of a net sheet meets the requirements of printing.
 -- Assumes nothing.
-use Rattle.laws.specs.Prelude.{ℕ, ◌<◌, ◌≤◌, ◌-◌, suc, ◌*◌, zero, ◌%◌, ◌/◌, ◌≡◌, ◌∙◌, sym, ap, subst, List, [], ◌∷◌, zero-add, mul-le-mul_right, le_trans}
+use Rattle.std.specs.Prelude.{◌<◌, ◌≤◌, ◌-◌, ◌*◌, ◌%◌, ◌/◌, ◌≡◌, ◌∷◌}
+use Rattle.laws.specs.Prelude.{ℕ, suc, zero, ◌∙◌, sym, ap, subst, List, [], zero-add, mul-le-mul_right, le_trans}
 use Rattle.laws.specs.Prelude.{mod-lt, div-lt_iff_lt-mul, div-add-mod', mul-zero, arith, length, get_or, drop, get_or-take, get_or-drop}
 use Rattle.rules.specs.Sheets.Sheets as sheets
 use Rattle.rules.specs.Sheets.SheetRules.{NetRules, GateTable, Tables}

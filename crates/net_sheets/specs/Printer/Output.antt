@@ -1,6 +1,7 @@
 -- The meaning of the calls' answers and buffers, and the outcomes as the code computes them.
 -- Assumes nothing.
-use Rattle.laws.specs.Prelude.{ℕ, ◌<◌, ◌≤◌, ◌-◌, ◌≡◌, ◌∙◌, sym, ap, subst, List, arith, length, take}
+use Rattle.std.specs.Prelude.{◌<◌, ◌≤◌, ◌-◌, ◌≡◌}
+use Rattle.laws.specs.Prelude.{ℕ, ◌∙◌, sym, ap, subst, List, arith, length, take}
 use Rattle.rules.specs.Calls.Settling.{written_sheet}
 use Rattle.rules.specs.Calls.Answers.{accepted, refused, written}
 use Rattle.laws.specs.Calls.Settling.{sheet_15, sheet_written}

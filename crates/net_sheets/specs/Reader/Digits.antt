@@ -1,6 +1,7 @@
 -- A gate's digits.
 -- Assumes nothing.
-use Rattle.laws.specs.Prelude.{ℕ, ◌<◌, ◌≤◌, ◌+◌, ◌-◌, ◌*◌, ◌≡◌, ◌∙◌, sym, ap, refl, true, false, Bool, ◌&&◌, and-eq-true_iff, and-false, List, map}
+use Rattle.std.specs.Prelude.{◌<◌, ◌≤◌, ◌+◌, ◌-◌, ◌*◌, ◌≡◌, ◌&&◌}
+use Rattle.laws.specs.Prelude.{ℕ, ◌∙◌, sym, ap, refl, true, false, Bool, and-eq-true_iff, and-false, List, map}
 use Rattle.laws.specs.Prelude.{add-one, arith, eqb, ltb, leb, length, get_or, take, drop, set, length-map, length-drop, get_or-map, length-take-le}
 use Rattle.laws.specs.Prelude.{get_or-take, get_or-drop, paste, paste-suc, eq-eqb, eqb-true, ne_eqb, lt-ltb, le-ltb, le-leb, lt-leb, leb-true}
 use Rattle.rules.specs.Lists.{all}

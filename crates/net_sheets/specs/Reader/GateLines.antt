@@ -1,6 +1,7 @@
 -- All gate lines.
 -- Assumes nothing.
-use Rattle.laws.specs.Prelude.{ℕ, ◌<◌, ◌≤◌, ◌+◌, ◌-◌, suc, ◌*◌, ◌≡◌, ◌∙◌, refl, false, Bool, List, [], ◌∷◌, ◌++◌, add-zero, sub-zero, add_assoc, arith}
+use Rattle.std.specs.Prelude.{◌<◌, ◌≤◌, ◌+◌, ◌-◌, ◌*◌, ◌≡◌, ◌∷◌, ◌++◌}
+use Rattle.laws.specs.Prelude.{ℕ, suc, ◌∙◌, refl, false, Bool, List, [], add-zero, sub-zero, add_assoc, arith}
 use Rattle.laws.specs.Prelude.{length, drop, replicate, drop_of_length-le, drop-cons, paste}
 use Rattle.rules.specs.Limits.{most_inputs}
 use Rattle.rules.specs.Lists.{range}

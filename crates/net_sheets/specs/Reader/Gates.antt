@@ -1,6 +1,7 @@
 -- Gate lines, one after the other.
 -- Assumes nothing.
-use Rattle.laws.specs.Prelude.{ℕ, ◌<◌, ◌≤◌, ◌+◌, ◌*◌, ◌≡◌, ◌∙◌, sym, ap, refl, Bool, List, [], ◌∷◌, ◌++◌, arith, length, drop, length-set, paste}
+use Rattle.std.specs.Prelude.{◌<◌, ◌≤◌, ◌+◌, ◌*◌, ◌≡◌, ◌∷◌, ◌++◌}
+use Rattle.laws.specs.Prelude.{ℕ, ◌∙◌, sym, ap, refl, Bool, List, [], arith, length, drop, length-set, paste}
 use Rattle.laws.specs.Prelude.{length-paste}
 use Rattle.rules.specs.Text.{space, newline, newline_byte}
 use Rattle.rules.specs.Sheets.Fields.{Read, read, turned_back, Reader, then, ◌>>=◌, give, field}

@@ -1,6 +1,7 @@
 -- The keys and lengths of the texts that refer to inputs and gates.
 -- Assumes nothing.
-use Rattle.laws.specs.Prelude.{ℕ, ◌<◌, ◌≤◌, ◌+◌, ◌*◌, ◌%◌, ◌/◌, ◌≡◌, ◌∙◌, ap, refl, true, false, Bool, List, [], ◌∷◌, zero-add, arith, eqb, length, get_or}
+use Rattle.std.specs.Prelude.{◌<◌, ◌≤◌, ◌+◌, ◌*◌, ◌%◌, ◌/◌, ◌≡◌, ◌∷◌}
+use Rattle.laws.specs.Prelude.{ℕ, ◌∙◌, ap, refl, true, false, Bool, List, [], zero-add, arith, eqb, length, get_or}
 use Rattle.laws.specs.Prelude.{drop, set, length-set, length-drop, get_or-set_same, get_or-set_other, length-take-le, eqb-true, lt-ltb, le-ltb, eqb-false}
 use Rattle.rules.specs.Limits.{most_name_bytes}
 use Rattle.rules.specs.Text.{decimal}

@@ -1,6 +1,7 @@
 -- The result of reading a net sheet, in the definitions.
 -- Assumes nothing.
-use Rattle.laws.specs.Prelude.{ℕ, ◌<◌, ◌≤◌, ◌+◌, ◌-◌, ◌≡◌, ◌∙◌, sym, ap, refl, true, false, List, [], arith, length, drop}
+use Rattle.std.specs.Prelude.{◌<◌, ◌≤◌, ◌+◌, ◌-◌, ◌≡◌}
+use Rattle.laws.specs.Prelude.{ℕ, ◌∙◌, sym, ap, refl, true, false, List, [], arith, length, drop}
 use Rattle.rules.specs.Text.{space, newline, text}
 use Rattle.rules.specs.Sheets.Fields.{Reader, then, ◌>>=◌, give, the_word, closed}
 use Rattle.rules.specs.Sheets.Sheets as sheets

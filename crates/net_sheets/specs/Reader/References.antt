@@ -1,6 +1,7 @@
 -- References, by name and by number.
 -- Assumes nothing.
-use Rattle.laws.specs.Prelude.{ℕ, ◌<◌, ◌≤◌, ◌+◌, ◌-◌, suc, zero, ◌≡◌, ◌∙◌, sym, ap, refl, true, false, Bool, not, ◌||◌, List, [], ◌∷◌, ◌++◌, map, sub-zero}
+use Rattle.std.specs.Prelude.{◌<◌, ◌≤◌, ◌+◌, ◌-◌, ◌≡◌, ◌||◌, ◌∷◌, ◌++◌}
+use Rattle.laws.specs.Prelude.{ℕ, suc, zero, ◌∙◌, sym, ap, refl, true, false, Bool, not, List, [], map, sub-zero}
 use Rattle.laws.specs.Prelude.{arith, eqb, length, get_or, drop, set, length-set, replicate, get_or-replicate, get_or-set_same, get_or-set_other, eq-eqb, eqb-true}
 use Rattle.laws.specs.Prelude.{ne_eqb, eqb-false}
 use Rattle.std.proofs.Math.Option.{Option, none}

@@ -1,6 +1,7 @@
 -- Lines field by field: every field except the last is followed by a space.
 -- Assumes nothing.
-use Rattle.laws.specs.Prelude.{ℕ, ◌<◌, ◌≤◌, ◌+◌, ◌-◌, suc, ◌≡◌, ◌∙◌, sym, ap, refl, List, [], ◌∷◌, ◌++◌, map, append_assoc, zero-add, sub-zero}
+use Rattle.std.specs.Prelude.{◌<◌, ◌≤◌, ◌+◌, ◌-◌, ◌≡◌, ◌∷◌, ◌++◌}
+use Rattle.laws.specs.Prelude.{ℕ, suc, ◌∙◌, sym, ap, refl, List, [], map, append_assoc, zero-add, sub-zero}
 use Rattle.rules.specs.Lists.{range}
 use Rattle.rules.specs.Text.{space, newline}
 use Rattle.rules.specs.Sheets.Printed.{line}

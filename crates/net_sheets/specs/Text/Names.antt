@@ -1,6 +1,7 @@
 -- A header's names: what printing them requires, and the line printed.
 -- Assumes nothing.
-use Rattle.laws.specs.Prelude.{ℕ, ◌<◌, ◌≤◌, ◌-◌, suc, ◌≡◌, ◌∙◌, ap, List, [], ◌∷◌, ◌++◌, map, arith}
+use Rattle.std.specs.Prelude.{◌<◌, ◌≤◌, ◌-◌, ◌≡◌, ◌∷◌, ◌++◌}
+use Rattle.laws.specs.Prelude.{ℕ, suc, ◌∙◌, ap, List, [], map, arith}
 use Rattle.rules.specs.Lists.{range}
 use Rattle.rules.specs.Limits.{most_inputs}
 use Rattle.rules.specs.Text.{newline}

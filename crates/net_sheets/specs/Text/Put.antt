@@ -1,6 +1,7 @@
 -- Text written into a buffer at a place, and the rest of a text while its parts are written one after the other.
 -- Assumes nothing.
-use Rattle.laws.specs.Prelude.{ℕ, ◌<◌, ◌≤◌, ◌+◌, ◌≡◌, ◌∙◌, sym, ap, refl, subst, List, [], ◌∷◌, ◌++◌, zero-add, add-zero, add-one, arith, length, get_or}
+use Rattle.std.specs.Prelude.{◌<◌, ◌≤◌, ◌+◌, ◌≡◌, ◌∷◌, ◌++◌}
+use Rattle.laws.specs.Prelude.{ℕ, ◌∙◌, sym, ap, refl, subst, List, [], zero-add, add-zero, add-one, arith, length, get_or}
 use Rattle.laws.specs.Prelude.{drop, set, length-set, length-append, drop_of_length-le, drop-cons, sets, length-sets, sets-eq}
 use Rattle.std.proofs.Math.ListN
 use Rattle.rules.specs.Calls.Answers.{written}

@@ -1,7 +1,8 @@
 -- From a row's levels to the next row's: the last four as a number, and those before them if the four become zeros.
 -- Assumes nothing.
-use Rattle.laws.specs.Prelude.{ℕ, ◌<◌, ◌≤◌, ◌+◌, ◌-◌, suc, ◌*◌, zero, ◌%◌, ◌/◌, ◌≡◌, ◌∙◌, sym, ap, refl, true, false, Bool, ◌&&◌, cond, false≢true}
-use Rattle.laws.specs.Prelude.{and-false, List, [], ◌∷◌, ◌++◌, arith, leb, length, get_or, take, drop, replicate, get_or-replicate, length-take-le, take_at}
+use Rattle.std.specs.Prelude.{◌<◌, ◌≤◌, ◌+◌, ◌-◌, ◌*◌, ◌%◌, ◌/◌, ◌≡◌, ◌&&◌, ◌∷◌, ◌++◌}
+use Rattle.laws.specs.Prelude.{ℕ, suc, zero, ◌∙◌, sym, ap, refl, true, false, Bool, cond, false≢true}
+use Rattle.laws.specs.Prelude.{and-false, List, [], arith, leb, length, get_or, take, drop, replicate, get_or-replicate, length-take-le, take_at}
 use Rattle.laws.specs.Prelude.{take-add, length_front, le-leb, lt-leb, leb-false}
 use Rattle.rules.specs.Limits.{most_levels, most_inputs}
 use Rattle.rules.specs.Sheets.Sheets.{levels_at}

@@ -1,6 +1,7 @@
 -- A table sheet's rows, byte by byte.
 -- Assumes nothing.
-use Rattle.laws.specs.Prelude.{ℕ, ◌<◌, ◌≤◌, ◌+◌, ◌*◌, ◌≡◌, ◌∙◌, ap, refl, List, [], ◌∷◌, ◌++◌, map, add-one, arith, length, get_or, drop, length-append}
+use Rattle.std.specs.Prelude.{◌<◌, ◌≤◌, ◌+◌, ◌*◌, ◌≡◌, ◌∷◌, ◌++◌}
+use Rattle.laws.specs.Prelude.{ℕ, ◌∙◌, ap, refl, List, [], map, add-one, arith, length, get_or, drop, length-append}
 use Rattle.laws.specs.Prelude.{drop_of_length-le, drop-cons}
 use Rattle.rules.specs.Text.{space, newline, digit_byte}
 use Rattle.rules.specs.Sheets.Sheets.{levels_at, ink_byte}

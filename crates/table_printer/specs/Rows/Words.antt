@@ -1,6 +1,7 @@
 -- A row's levels four at a time: four levels, each with the space after it, as one number, and its eight bytes.
 -- Assumes nothing.
-use Rattle.laws.specs.Prelude.{ℕ, ◌<◌, ◌≤◌, ◌+◌, ◌-◌, suc, ◌*◌, zero, ◌%◌, ◌/◌, ◌≡◌, ◌∙◌, sym, ap, refl, List, [], ◌∷◌, ◌++◌, map, div-div-eq-div-mul}
+use Rattle.std.specs.Prelude.{◌<◌, ◌≤◌, ◌+◌, ◌-◌, ◌*◌, ◌%◌, ◌/◌, ◌≡◌, ◌∷◌, ◌++◌}
+use Rattle.laws.specs.Prelude.{ℕ, suc, zero, ◌∙◌, sym, ap, refl, List, [], map, div-div-eq-div-mul}
 use Rattle.laws.specs.Prelude.{arith, length, get_or, take, drop, set, length-append, length-drop, length-take-le, drop-cons, sets, length-sets, take-add}
 use Rattle.laws.specs.Prelude.{set_comm, set-set, digits_mod}
 use Rattle.rules.specs.Limits.{most_inputs}

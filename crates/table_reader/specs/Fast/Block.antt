@@ -1,7 +1,8 @@
 -- A block of m * m rows: the last two levels count up from 0, and the levels before them stay the same. A line of a block: the m rows in which only the
 -- last level counts up.
 -- Assumes nothing.
-use Rattle.laws.specs.Prelude.{ℕ, ◌<◌, ◌≤◌, ◌+◌, ◌^◌, ◌*◌, ◌≡◌, ◌∙◌, sym, ap, refl, true, false, Bool, false≢true, List, [], ◌∷◌, ◌++◌, mul-le-mul_right}
+use Rattle.std.specs.Prelude.{◌<◌, ◌≤◌, ◌+◌, ◌^◌, ◌*◌, ◌≡◌, ◌∷◌, ◌++◌}
+use Rattle.laws.specs.Prelude.{ℕ, ◌∙◌, sym, ap, refl, true, false, Bool, false≢true, List, [], mul-le-mul_right}
 use Rattle.laws.specs.Prelude.{pow-suc, suc-mul, mul-le-mul, add-mul, add-one, arith, length, get_or, take, drop, set, get_or-take, take-take, digits_mod}
 use Rattle.laws.specs.Prelude.{digits_div}
 use Rattle.rules.specs.Limits.{most_levels, most_inputs}

@@ -1,6 +1,7 @@
 -- The rows, block by block.
 -- Assumes nothing.
-use Rattle.laws.specs.Prelude.{ℕ, ◌<◌, ◌≤◌, ◌+◌, ◌-◌, ◌^◌, suc, ◌*◌, zero, ◌≡◌, ◌∙◌, sym, ap, refl, ap₂, true, Bool, List, [], ◌∷◌, ◌++◌, append_assoc}
+use Rattle.std.specs.Prelude.{◌<◌, ◌≤◌, ◌+◌, ◌-◌, ◌^◌, ◌*◌, ◌≡◌, ◌∷◌, ◌++◌}
+use Rattle.laws.specs.Prelude.{ℕ, suc, zero, ◌∙◌, sym, ap, refl, ap₂, true, Bool, List, [], append_assoc}
 use Rattle.laws.specs.Prelude.{add-zero, zero-mul, suc-mul, add_assoc, add-mul, add-one, arith, length, take, drop, replicate, length-take-le, drop_at}
 use Rattle.laws.specs.Prelude.{take-add}
 use Rattle.rules.specs.Limits.{size_fits}

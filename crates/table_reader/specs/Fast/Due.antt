@@ -1,6 +1,7 @@
 -- A row with the expected bytes, two bytes at a time.
 -- Assumes nothing.
-use Rattle.laws.specs.Prelude.{ℕ, ◌<◌, ◌≤◌, ◌+◌, ◌*◌, ◌≡◌, ◌∙◌, sym, ap, refl, true, false, Bool, false≢true, List, [], ◌∷◌, ◌++◌, arith, length, get_or}
+use Rattle.std.specs.Prelude.{◌<◌, ◌≤◌, ◌+◌, ◌*◌, ◌≡◌, ◌∷◌, ◌++◌}
+use Rattle.laws.specs.Prelude.{ℕ, ◌∙◌, sym, ap, refl, true, false, Bool, false≢true, List, [], arith, length, get_or}
 use Rattle.laws.specs.Prelude.{take, drop, drop_of_length-le, length-take-le}
 use Rattle.rules.specs.Text.{space, newline, space_byte, newline_byte, open_byte}
 use Rattle.rules.specs.Sheets.Fields.{read, then, field}

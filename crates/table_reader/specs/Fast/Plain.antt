@@ -1,6 +1,7 @@
 -- A field of one byte, mostly a digit, with the required separator after it: two bytes, compared as one number.
 -- Assumes nothing.
-use Rattle.laws.specs.Prelude.{ℕ, ◌<◌, ◌+◌, ◌*◌, ◌≡◌, ap, refl, true, false, List, [], ◌∷◌, add-one, arith, length, get_or, drop, eq-eqb}
+use Rattle.std.specs.Prelude.{◌<◌, ◌+◌, ◌*◌, ◌≡◌, ◌∷◌}
+use Rattle.laws.specs.Prelude.{ℕ, ap, refl, true, false, List, [], add-one, arith, length, get_or, drop, eq-eqb}
 use Rattle.rules.specs.Text.{zero_byte}
 use Rattle.rules.specs.Sheets.Fields.{Read, read, Judge, good, is_separator, run, past, separator, after_field_in, field_of_in, field, field_in}
 use Rattle.laws.specs.Lists.Walks.{rest}

@@ -1,6 +1,7 @@
 -- The rows, one after the other.
 -- Assumes nothing.
-use Rattle.laws.specs.Prelude.{ℕ, ◌<◌, ◌≤◌, ◌+◌, ◌-◌, ◌^◌, suc, ◌≡◌, ◌∙◌, sym, ap, refl, List, [], ◌∷◌, ◌++◌, sub-zero, add-one, arith, length, take, drop}
+use Rattle.std.specs.Prelude.{◌<◌, ◌≤◌, ◌+◌, ◌-◌, ◌^◌, ◌≡◌, ◌∷◌, ◌++◌}
+use Rattle.laws.specs.Prelude.{ℕ, suc, ◌∙◌, sym, ap, refl, List, [], sub-zero, add-one, arith, length, take, drop}
 use Rattle.laws.specs.Prelude.{set, take-suc-set}
 use Rattle.laws.specs.Lists.Bounds.{Below, below_append}
 use Rattle.rules.specs.Sheets.Fields.{then}

@@ -1,6 +1,7 @@
 -- Levels at the expected places, four of them checked by eight bytes as one number.
 -- Assumes nothing.
-use Rattle.laws.specs.Prelude.{ℕ, ◌<◌, ◌≤◌, ◌+◌, ◌-◌, suc, ◌*◌, zero, ◌≡◌, ◌∙◌, sym, ap, subst, subst₂, List, add-one, dec_lt, ℕ_discrete, arith, length}
+use Rattle.std.specs.Prelude.{◌<◌, ◌≤◌, ◌+◌, ◌-◌, ◌*◌, ◌≡◌}
+use Rattle.laws.specs.Prelude.{ℕ, suc, zero, ◌∙◌, sym, ap, subst, subst₂, List, add-one, dec_lt, ℕ_discrete, arith, length}
 use Rattle.laws.specs.Prelude.{get_or, take}
 use Rattle.rules.specs.Limits.{most_inputs}
 use Rattle.rules.specs.Text.{space_byte}

@@ -1,6 +1,7 @@
 -- Eight bytes as one number: four levels, each with the space after it, as read and as expected.
 -- Assumes nothing.
-use Rattle.laws.specs.Prelude.{ℕ, ◌<◌, ◌≤◌, ◌+◌, ◌-◌, ◌*◌, ◌≡◌, cond, List, dec_lt, arith, ltb, get_or, lt-ltb, le-ltb}
+use Rattle.std.specs.Prelude.{◌<◌, ◌≤◌, ◌+◌, ◌-◌, ◌*◌, ◌≡◌}
+use Rattle.laws.specs.Prelude.{ℕ, cond, List, dec_lt, arith, ltb, get_or, lt-ltb, le-ltb}
 use Rattle.rules.specs.Limits.{most_inputs}
 use Rattle.rules.specs.Text.{zero_byte, space_byte}
 use Rattle.table_reader.specs.declared.fast.words.Words.{Words}

@@ -1,7 +1,8 @@
 -- A group whose parts all have mark 2 has (2k − 3)!! trees, where k is the number of its members: as many as k inputs have.
 -- Assumes nothing.
-use Rattle.laws.specs.Prelude.{ℕ, ◌<◌, ◌≤◌, ◌+◌, ◌-◌, ◌^◌, suc, ◌*◌, zero, ◌≡◌, ◌∙◌, sym, ap, refl, ap₂, ◌≢◌, true, false, Bool, ◌&&◌, cond, false≢true}
-use Rattle.laws.specs.Prelude.{and-false, List, [], ◌∷◌, ◌++◌, map, mul-zero, ℕ_discrete, dec_le, arith, eqb, get_or, eqb-true}
+use Rattle.std.specs.Prelude.{◌<◌, ◌≤◌, ◌+◌, ◌-◌, ◌^◌, ◌*◌, ◌≡◌, ◌≢◌, ◌&&◌, ◌∷◌, ◌++◌}
+use Rattle.laws.specs.Prelude.{ℕ, suc, zero, ◌∙◌, sym, ap, refl, ap₂, true, false, Bool, cond, false≢true}
+use Rattle.laws.specs.Prelude.{and-false, List, [], map, mul-zero, ℕ_discrete, dec_le, arith, eqb, get_or, eqb-true}
 use Rattle.std.specs.Int.Bits.{and_self}
 use Rattle.std.proofs.lemmas.Nat.{and_le_r}
 use Rattle.rules.specs.Limits.{most_inputs}

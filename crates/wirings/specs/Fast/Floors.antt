@@ -2,7 +2,8 @@
 -- members, one more layer has room for all of them. With marks that no table has, a group may lack room; then the search uses only the floor of any
 -- split.
 -- Assumes nothing.
-use Rattle.laws.specs.Prelude.{ℕ, ◌<◌, ◌≤◌, ◌+◌, ◌-◌, ◌^◌, suc, ◌*◌, zero, max, ◌≡◌, ◌∙◌, sym, ap, subst, ⊎_elim, ◌⊎◌, inl, inr, true, false, Bool}
+use Rattle.std.specs.Prelude.{◌<◌, ◌≤◌, ◌+◌, ◌-◌, ◌^◌, ◌*◌, ◌≡◌, ◌⊎◌}
+use Rattle.laws.specs.Prelude.{ℕ, suc, zero, max, ◌∙◌, sym, ap, subst, ⊎_elim, inl, inr, true, false, Bool}
 use Rattle.laws.specs.Prelude.{true≢false, List, le_trans, dec_lt, ℕ_discrete, arith, length, get_or, set, get_or-set_same, get_or-set_other, pow_mono}
 use Rattle.std.specs.Int.Count.{count_leading_zeros}
 use Rattle.std.proofs.lemmas.Nat.{leading_length}

@@ -1,7 +1,8 @@
 -- The cells in blocks. The cells with the same levels at the inputs before input i are contiguous, with one run of its weight for each level. So two
 -- neighbours at the input are in one block, and the first of them is not in its last run.
 -- Assumes nothing.
-use Rattle.laws.specs.Prelude.{ℕ, ◌<◌, ◌≤◌, ◌+◌, ◌-◌, ◌^◌, suc, ◌*◌, ◌%◌, ◌/◌, ◌≡◌, ◌∙◌, sym, ap, refl, true, false, Bool, not, true≢false, false≢true}
+use Rattle.std.specs.Prelude.{◌<◌, ◌≤◌, ◌+◌, ◌-◌, ◌^◌, ◌*◌, ◌%◌, ◌/◌, ◌≡◌}
+use Rattle.laws.specs.Prelude.{ℕ, suc, ◌∙◌, sym, ap, refl, true, false, Bool, not, true≢false, false≢true}
 use Rattle.laws.specs.Prelude.{zero-mul, mul-le-mul_right, suc-mul, mod-lt, div-lt_iff_lt-mul, div-add-mod', one-le-pow, mul_assoc, one-mul, pow-succ'}
 use Rattle.laws.specs.Prelude.{mul-pos, mul-add-div_right, add-div_right, lt-div-mul-add, arith, digits_lt, digits_mod, pow-add}
 use Rattle.rules.specs.Sheets.Sheets.{level}

@@ -1,6 +1,7 @@
 -- The leaves from the group of the idle inputs: the inputs that matter, and the first-listed others that bring the number up to two.
 -- Assumes nothing.
-use Rattle.laws.specs.Prelude.{ℕ, ◌<◌, ◌≤◌, ◌+◌, ◌-◌, ◌^◌, ◌≡◌, ◌∙◌, sym, ap, refl, ap₂, true, false, Bool, not, List, ◌∷◌, map, append-nil, sub-zero}
+use Rattle.std.specs.Prelude.{◌<◌, ◌≤◌, ◌+◌, ◌-◌, ◌^◌, ◌≡◌, ◌∷◌}
+use Rattle.laws.specs.Prelude.{ℕ, ◌∙◌, sym, ap, refl, ap₂, true, false, Bool, not, List, map, append-nil, sub-zero}
 use Rattle.laws.specs.Prelude.{dec_lt, arith, length, take, eq-eqb, ne_eqb}
 use Rattle.rules.specs.Lists.{range, those, total}
 use Rattle.rules.specs.Groups.Groups.{member, size, others}

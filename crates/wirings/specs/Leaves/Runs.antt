@@ -1,6 +1,7 @@
 -- Comparing two runs of a table's inks.
 -- Assumes nothing.
-use Rattle.laws.specs.Prelude.{ℕ, ◌<◌, ◌+◌, ◌≡◌, ◌⊎◌, inl, inr, true, false, Bool, true≢false, false≢true, eq-or-lt_of_le, arith}
+use Rattle.std.specs.Prelude.{◌<◌, ◌+◌, ◌≡◌, ◌⊎◌}
+use Rattle.laws.specs.Prelude.{ℕ, inl, inr, true, false, Bool, true≢false, false≢true, eq-or-lt_of_le, arith}
 
 -- the `count` inks from a on equal those from b on
 abbrev pub WiringSameRuns : (ℕ → ℕ) → ℕ → ℕ → ℕ → Type 0

@@ -1,6 +1,7 @@
 -- `arrivals::settling::input_ends` meets its contract. The loop's invariant: the first i inputs have their ends.
 -- Assumes nothing.
-use Rattle.laws.specs.Prelude.{ℕ, ◌<◌, ◌≡◌, ◌∙◌, ap, refl, subst, arith}
+use Rattle.std.specs.Prelude.{◌<◌, ◌≡◌}
+use Rattle.laws.specs.Prelude.{ℕ, ◌∙◌, ap, refl, subst, arith}
 use Rattle.rules.specs.Limits.{most_inputs}
 use Rattle.arrivals.specs.Ends.{ends_in}
 use Rattle.arrivals.specs.Wires.{WiresAt, first_times, arrival_inputs_none, inputs_more}

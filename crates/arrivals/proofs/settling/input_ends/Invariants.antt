@@ -1,6 +1,6 @@
 -- `arrivals::settling::input_ends` meets its contract. The loop's invariant: the first i inputs have their ends.
 -- Assumes nothing.
-use Rattle.laws.specs.Prelude.{◌≤◌, ◌-◌}
+use Rattle.std.specs.Prelude.{◌≤◌, ◌-◌}
 use Rattle.arrivals.specs.Wires.{WiresAt, first_times}
 use Rattle.arrivals.proofs.settling.input_ends.Given as goal
 

@@ -1,6 +1,7 @@
 -- `arrivals::settling::settling` meets its contract. The loop's invariant: the inputs and the first k gates have their ends.
 -- Assumes nothing.
-use Rattle.laws.specs.Prelude.{ℕ, ◌<◌, ◌≤◌, ◌+◌, refl, arith}
+use Rattle.std.specs.Prelude.{◌<◌, ◌≤◌, ◌+◌}
+use Rattle.laws.specs.Prelude.{ℕ, refl, arith}
 use Rattle.rules.specs.Limits.{most_delay}
 use Rattle.nets.specs.declared.forms.Net.{Net}
 use Rattle.nets.specs.Room.{most_wires}

@@ -1,6 +1,6 @@
 -- `arrivals::settling::settling` meets its contract. The loop's invariant: the inputs and the first k gates have their ends.
 -- Assumes nothing.
-use Rattle.laws.specs.Prelude.{◌-◌, ◌≡◌}
+use Rattle.std.specs.Prelude.{◌-◌, ◌≡◌}
 use Rattle.rules.specs.Nets.Arrivals.{quarter}
 use Rattle.arrivals.specs.Wires.{ArrivalTurned}
 use Rattle.arrivals.proofs.settling.settling.Given as goal

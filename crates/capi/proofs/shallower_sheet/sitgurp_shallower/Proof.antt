@@ -1,5 +1,6 @@
 -- `capi::shallower_sheet::sitgurp_shallower` meets its contract: which sheet, as two numbers. Assumes nothing.
-use Rattle.laws.specs.Prelude.{◌≡◌, ◌∙◌, sym, ap, needs}
+use Rattle.std.specs.Prelude.{◌≡◌}
+use Rattle.laws.specs.Prelude.{◌∙◌, sym, ap, needs}
 use Rattle.rules.specs.Calls.Shallower as rules
 use Rattle.shallower.specs.declared.which.Which.{Which}
 use Rattle.shallower.specs.Which.{which_as}

@@ -1,5 +1,6 @@
 -- `cells::bare::full_cells` meets its contract: each return is one of the definition's cases. Assumes nothing.
-use Rattle.laws.specs.Prelude.{◌^◌, ◌≡◌, ◌∙◌, sym, true, arith, length}
+use Rattle.std.specs.Prelude.{◌^◌, ◌≡◌}
+use Rattle.laws.specs.Prelude.{◌∙◌, sym, true, arith, length}
 use Rattle.rules.specs.Limits.{size_fits}
 use Rattle.laws.specs.Numbers.Sizes.{Size, sized}
 use Rattle.laws.specs.Calls.BareCells.{bare_size, bare_length, bare_cell, bare_good}

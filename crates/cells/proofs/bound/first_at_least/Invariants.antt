@@ -1,5 +1,6 @@
 -- `cells::bound::first_at_least` meets its contract. The loop's invariant: every cell so far is below the bound. Assumes nothing.
-use Rattle.laws.specs.Prelude.{ℕ, ◌<◌, ◌≤◌, ◌-◌, length, get_or}
+use Rattle.std.specs.Prelude.{◌<◌, ◌≤◌, ◌-◌}
+use Rattle.laws.specs.Prelude.{ℕ, length, get_or}
 use Rattle.cells.proofs.bound.first_at_least.Given as goal
 
 abbrev pub invariant-loop-k : goal.invariant-loop-k

@@ -1,5 +1,6 @@
 -- `checking::same::all_same` meets its contract. The loop's invariant: if no difference was found, the two are the same below `i`. Assumes nothing.
-use Rattle.laws.specs.Prelude.{ℕ, ◌<◌, ◌-◌, ◌≡◌, true, length, get_or}
+use Rattle.std.specs.Prelude.{◌<◌, ◌-◌, ◌≡◌}
+use Rattle.laws.specs.Prelude.{ℕ, true, length, get_or}
 use Rattle.checking.proofs.same.all_same.Given as goal
 
 abbrev pub invariant-loop-i : goal.invariant-loop-i

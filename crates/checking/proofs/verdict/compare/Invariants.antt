@@ -1,6 +1,7 @@
 -- `checking::verdict::compare` meets its contract. The loop's invariant: the two agree at each index below `i` at which the table is not open.
 -- Assumes nothing.
-use Rattle.laws.specs.Prelude.{◌≤◌, ◌-◌, length}
+use Rattle.std.specs.Prelude.{◌≤◌, ◌-◌}
+use Rattle.laws.specs.Prelude.{length}
 use Rattle.checking.specs.Comparing.{AgreeTo}
 use Rattle.checking.proofs.verdict.compare.Given as goal
 

@@ -1,5 +1,6 @@
 -- `classes::alike::class_of` meets its contract. The loop's invariant: none of the first j is alike. Assumes nothing.
-use Rattle.laws.specs.Prelude.{◌-◌, ◌≡◌, ◌∙◌, sym, arith}
+use Rattle.std.specs.Prelude.{◌-◌, ◌≡◌}
+use Rattle.laws.specs.Prelude.{◌∙◌, sym, arith}
 use borrow.Author.Count.{below_more}
 use Rattle.classes.specs.Firsts.{search_is}
 use Rattle.classes.proofs.alike.class_of.Goals as goal

@@ -1,7 +1,8 @@
 -- `classes::counting::class_firsts` meets its contract. The loop's invariant: what is kept and the assignments not yet visited give the classes of
 -- all; each that is kept is in the chain of its key.
 -- Assumes nothing.
-use Rattle.laws.specs.Prelude.{ℕ, ◌<◌, ◌-◌, ◌≡◌, ◌∙◌, refl, true, false, arith, length, get_or, take, length-set}
+use Rattle.std.specs.Prelude.{◌<◌, ◌-◌, ◌≡◌}
+use Rattle.laws.specs.Prelude.{ℕ, ◌∙◌, refl, true, false, arith, length, get_or, take, length-set}
 use Rattle.rules.specs.Lists.{first_place}
 use Rattle.rules.specs.Groups.Groups.{alike_over}
 use Rattle.rules.specs.Calls.Answers.{ink_in}

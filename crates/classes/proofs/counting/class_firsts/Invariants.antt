@@ -1,7 +1,8 @@
 -- `classes::counting::class_firsts` meets its contract. The loop's invariant: what is kept and the assignments not yet visited give the classes of
 -- all; each that is kept is in the chain of its key.
 -- Assumes nothing.
-use Rattle.laws.specs.Prelude.{◌-◌, ◌≡◌, length}
+use Rattle.std.specs.Prelude.{◌-◌, ◌≡◌}
+use Rattle.laws.specs.Prelude.{length}
 use Rattle.rules.specs.Calls.Answers.{ink_in}
 use Rattle.classes.specs.Counting.{FirstsFound}
 use Rattle.classes.proofs.KeptChains.{Chained}

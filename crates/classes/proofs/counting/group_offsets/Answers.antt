@@ -1,5 +1,6 @@
 -- `classes::counting::group_offsets` meets its contract. Assumes nothing.
-use Rattle.laws.specs.Prelude.{ℕ, ◌≤◌, ◌-◌, ◌^◌, ◌≡◌, subst, subst⁻¹, length}
+use Rattle.std.specs.Prelude.{◌≤◌, ◌-◌, ◌^◌, ◌≡◌}
+use Rattle.laws.specs.Prelude.{ℕ, subst, subst⁻¹, length}
 use Rattle.rules.specs.Groups.Groups.{size, others, points}
 use Rattle.radix.specs.Fronts.{Front, rest_others}
 use Rattle.classes.proofs.counting.group_offsets.Goals as goal

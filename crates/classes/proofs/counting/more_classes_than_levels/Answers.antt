@@ -1,5 +1,6 @@
 -- `classes::counting::more_classes_than_levels` meets its contract: the count is above m exactly if there are more classes. Assumes nothing.
-use Rattle.laws.specs.Prelude.{◌+◌, arith, length}
+use Rattle.std.specs.Prelude.{◌+◌}
+use Rattle.laws.specs.Prelude.{arith, length}
 use Rattle.rules.specs.Groups.Groups.{classes, multiplicity}
 use Rattle.rules.specs.Calls.Answers.{ink_in}
 use Rattle.radix.specs.Fronts.{fits_in}

@@ -1,6 +1,7 @@
 -- `classes::differences::first_difference` meets its contract. The loop begins where the inks are no longer known to be the same. Its invariant: the
 -- remaining places decide. Assumes nothing.
-use Rattle.laws.specs.Prelude.{ℕ, ◌<◌, ◌+◌, ◌-◌, ◌∙◌, sym, ap, not, sub-zero, arith, length, get_or, eq-eqb, ne_eqb}
+use Rattle.std.specs.Prelude.{◌<◌, ◌+◌, ◌-◌}
+use Rattle.laws.specs.Prelude.{ℕ, ◌∙◌, sym, ap, not, sub-zero, arith, length, get_or, eq-eqb, ne_eqb}
 use mathlib.Core.Option.{Option}
 use Rattle.laws.specs.Lists.Walks.{find_next, find_stop, find_end}
 use Rattle.rules.specs.Calls.Answers.{ink_in}

@@ -1,5 +1,6 @@
 -- `classes::differences::same_at` meets its contract. Assumes nothing.
-use Rattle.laws.specs.Prelude.{◌<◌, ◌+◌, refl, arith, length, get_or, rules}
+use Rattle.std.specs.Prelude.{◌<◌, ◌+◌}
+use Rattle.laws.specs.Prelude.{refl, arith, length, get_or, rules}
 use Rattle.rules.specs.Groups.Differences.{differ_at}
 use Rattle.classes.proofs.differences.same_at.Goals as goal
 

@@ -1,5 +1,6 @@
 -- `classes::differences::same_front` meets its contract. The loop's invariant: the inks are the same at every place so far. Assumes nothing.
-use Rattle.laws.specs.Prelude.{◌-◌, arith}
+use Rattle.std.specs.Prelude.{◌-◌}
+use Rattle.laws.specs.Prelude.{arith}
 use Rattle.classes.proofs.Sames.{further}
 use Rattle.classes.proofs.differences.same_front.Goals as goal
 

@@ -1,5 +1,6 @@
 -- `classes::differences::same_front` meets its contract. The loop's invariant: the inks are the same at every place so far. Assumes nothing.
-use Rattle.laws.specs.Prelude.{ℕ, ◌<◌, ◌≤◌, ◌-◌, ◌≡◌, false, length}
+use Rattle.std.specs.Prelude.{◌<◌, ◌≤◌, ◌-◌, ◌≡◌}
+use Rattle.laws.specs.Prelude.{ℕ, false, length}
 use Rattle.rules.specs.Calls.Answers.{ink_in}
 use Rattle.rules.specs.Groups.Differences.{differ_at}
 use Rattle.classes.proofs.differences.same_front.Given as goal

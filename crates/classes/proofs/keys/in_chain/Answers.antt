@@ -1,5 +1,6 @@
 -- `classes::keys::in_chain` meets its contract. The loop's invariant: if one in the chain is alike to p, it is in the rest. Assumes nothing.
-use Rattle.laws.specs.Prelude.{◌<◌, ◌≤◌, ◌-◌, ◌∙◌, sym, arith, get_or}
+use Rattle.std.specs.Prelude.{◌<◌, ◌≤◌, ◌-◌}
+use Rattle.laws.specs.Prelude.{◌∙◌, sym, arith, get_or}
 use Rattle.rules.specs.Calls.Answers.{ink_in}
 use Rattle.rules.specs.Groups.Groups.{alike_over}
 use Rattle.classes.specs.Chains.{rest_next, search_found, search_missed}

@@ -1,5 +1,6 @@
 -- `classes::keys::key` meets its contract. The loop's invariant: the key so far and the remaining columns give the key. Assumes nothing.
-use Rattle.laws.specs.Prelude.{ℕ, ◌<◌, ◌≤◌, ◌+◌, ◌-◌, ◌*◌, ◌%◌, ◌≡◌, ◌∙◌, sym, ap, refl, mul-le-mul, arith, length, get_or, take, drop, drop_of_length-le}
+use Rattle.std.specs.Prelude.{◌<◌, ◌≤◌, ◌+◌, ◌-◌, ◌*◌, ◌%◌, ◌≡◌}
+use Rattle.laws.specs.Prelude.{ℕ, ◌∙◌, sym, ap, refl, mul-le-mul, arith, length, get_or, take, drop, drop_of_length-le}
 use Rattle.laws.specs.Prelude.{length-take-le, get_or-take}
 use Rattle.rules.specs.Calls.Answers.{ink_in}
 use Rattle.classes.specs.Keys.{key_from, key_of, key_next}

@@ -1,5 +1,6 @@
 -- `classes::keys::key` meets its contract. The loop's invariant: the key so far and the remaining columns give the key. Assumes nothing.
-use Rattle.laws.specs.Prelude.{◌<◌, ◌≤◌, ◌-◌, ◌≡◌, take, drop}
+use Rattle.std.specs.Prelude.{◌<◌, ◌≤◌, ◌-◌, ◌≡◌}
+use Rattle.laws.specs.Prelude.{take, drop}
 use Rattle.rules.specs.Calls.Answers.{ink_in}
 use Rattle.classes.specs.Keys.{key_bound, key_from, key_of}
 use Rattle.classes.proofs.keys.key.Given as goal

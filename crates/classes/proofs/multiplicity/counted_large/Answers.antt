@@ -1,5 +1,6 @@
 -- `classes::multiplicity::counted_large` meets its contract: its arrays are long enough for any table. Assumes nothing.
-use Rattle.laws.specs.Prelude.{ℕ, ◌≤◌, ◌^◌, le_trans, pow-le-pow_right, arith}
+use Rattle.std.specs.Prelude.{◌≤◌, ◌^◌}
+use Rattle.laws.specs.Prelude.{ℕ, le_trans, pow-le-pow_right, arith}
 use Rattle.rules.specs.Limits.{most_cells}
 use Rattle.rules.specs.Groups.Groups.{size}
 use Rattle.laws.specs.Numbers.Sizes.{sized}

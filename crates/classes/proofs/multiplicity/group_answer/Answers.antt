@@ -1,6 +1,7 @@
 -- `classes::multiplicity::group_answer` meets its contract: refusal 11, or the count of the group's classes.
 -- Assumes nothing.
-use Rattle.laws.specs.Prelude.{ℕ, ◌<◌, ◌≤◌, ◌-◌, ◌^◌, ◌≡◌, ap, arith, length}
+use Rattle.std.specs.Prelude.{◌<◌, ◌≤◌, ◌-◌, ◌^◌, ◌≡◌}
+use Rattle.laws.specs.Prelude.{ℕ, ap, arith, length}
 use Rattle.rules.specs.Groups.Groups.{size, others, multiplicity}
 use Rattle.rules.specs.Calls.Answers.{accepted, ink_in}
 use Rattle.laws.specs.Numbers.Sizes.{sized}

@@ -1,5 +1,6 @@
 -- `evaluation::gate::looked_up_values` meets its contract. The loop's invariant: the gate has its first p values. Assumes nothing.
-use Rattle.laws.specs.Prelude.{◌<◌, ◌+◌, ◌*◌, arith, length, get_or}
+use Rattle.std.specs.Prelude.{◌<◌, ◌+◌, ◌*◌}
+use Rattle.laws.specs.Prelude.{arith, length, get_or}
 use Rattle.evaluation.specs.Lists.Runs.{run_none, column_run_more, run_all}
 use Rattle.evaluation.specs.Gates.{digit_there, digit_read}
 use Rattle.evaluation.proofs.gate.looked_up_values.Goals as goal

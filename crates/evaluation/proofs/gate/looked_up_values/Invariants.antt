@@ -1,5 +1,5 @@
 -- `evaluation::gate::looked_up_values` meets its contract. The loop's invariant: the gate has its first p values. Assumes nothing.
-use Rattle.laws.specs.Prelude.{◌≤◌, ◌-◌}
+use Rattle.std.specs.Prelude.{◌≤◌, ◌-◌}
 use Rattle.evaluation.specs.Gates.{GateDone}
 use Rattle.evaluation.proofs.gate.looked_up_values.Given as goal
 

@@ -1,5 +1,6 @@
 -- `evaluation::values::gate_by_gate` meets its contract. The loop's invariant: the first k gates have their values. Assumes nothing.
-use Rattle.laws.specs.Prelude.{ℕ, ◌<◌, ◌≤◌, ◌+◌, ◌*◌, mul-le-mul, arith, get_or, rules}
+use Rattle.std.specs.Prelude.{◌<◌, ◌≤◌, ◌+◌, ◌*◌}
+use Rattle.laws.specs.Prelude.{ℕ, mul-le-mul, arith, get_or, rules}
 use Rattle.nets.specs.declared.forms.Net.{Net}
 use Rattle.nets.specs.Room.{most_gates, most_wires}
 use Rattle.nets.specs.References.{GateStep, gate_step}

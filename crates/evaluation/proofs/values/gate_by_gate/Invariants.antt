@@ -1,5 +1,5 @@
 -- `evaluation::values::gate_by_gate` meets its contract. The loop's invariant: the first k gates have their values. Assumes nothing.
-use Rattle.laws.specs.Prelude.{◌-◌}
+use Rattle.std.specs.Prelude.{◌-◌}
 use Rattle.evaluation.specs.Values.{GatesDone}
 use Rattle.evaluation.proofs.values.gate_by_gate.Given as goal
 

@@ -1,5 +1,6 @@
 -- `families::count::family_count` meets its contract. Assumes nothing.
-use Rattle.laws.specs.Prelude.{◌^◌, ◌∙◌, arith, needs}
+use Rattle.std.specs.Prelude.{◌^◌}
+use Rattle.laws.specs.Prelude.{◌∙◌, arith, needs}
 use Rattle.rules.specs.Limits.{most_inputs}
 use Rattle.settling.specs.Outcomes.{given_size, given_count, given_below}
 use Rattle.families.specs.Marked.{none_known, groups_room}

@@ -1,5 +1,6 @@
 -- `families::marked::count_marked` meets its contract. Assumes nothing.
-use Rattle.laws.specs.Prelude.{ℕ, ◌-◌, ◌≡◌, subst, subst⁻¹, inl, List, arith, take, needs}
+use Rattle.std.specs.Prelude.{◌-◌, ◌≡◌}
+use Rattle.laws.specs.Prelude.{ℕ, subst, subst⁻¹, inl, List, arith, take, needs}
 use Rattle.rules.specs.Groups.Marks.{marks_of}
 use Rattle.rules.specs.Nets.Leaves.{leaves_of}
 use Rattle.rules.specs.Calls.Answers.{ink_in}

@@ -1,5 +1,6 @@
 -- `families::tree::tree_marked` meets its contract. Assumes nothing.
-use Rattle.laws.specs.Prelude.{ℕ, ◌-◌, ◌^◌, ◌≡◌, sym, subst⁻¹, List, le_of_eq, arith, length, take, needs}
+use Rattle.std.specs.Prelude.{◌-◌, ◌^◌, ◌≡◌}
+use Rattle.laws.specs.Prelude.{ℕ, sym, subst⁻¹, List, le_of_eq, arith, length, take, needs}
 use Rattle.rules.specs.Limits.{most_inputs}
 use Rattle.rules.specs.Groups.Marks.{marks_of}
 use Rattle.rules.specs.Calls.Answers.{ink_in}

@@ -1,6 +1,7 @@
 -- `fields::same::same_bytes` meets its contract. The loop's invariant: the two are the same exactly when their rests are.
 -- Assumes nothing.
-use Rattle.laws.specs.Prelude.{◌-◌, ◌≡◌, length, drop}
+use Rattle.std.specs.Prelude.{◌-◌, ◌≡◌}
+use Rattle.laws.specs.Prelude.{length, drop}
 use Rattle.rules.specs.Lists.{same}
 use Rattle.fields.proofs.same.same_bytes.Given as goal
 

@@ -1,6 +1,7 @@
 -- `gate_tables::fill::fill_gates` meets its contract. The loop's invariant: the first `k` links are filled, and the rows of their wires are written.
 -- Assumes nothing.
-use Rattle.laws.specs.Prelude.{ℕ, ◌<◌, ◌≤◌, ◌+◌, ◌-◌, ◌^◌, suc, ◌*◌, zero, ◌≡◌, ◌∙◌, sym, ap₂, refl, subst, subst⁻¹, List, mul-le-mul_right, lt_of_lt_of_le}
+use Rattle.std.specs.Prelude.{◌<◌, ◌≤◌, ◌+◌, ◌-◌, ◌^◌, ◌*◌, ◌≡◌}
+use Rattle.laws.specs.Prelude.{ℕ, suc, zero, ◌∙◌, sym, ap₂, refl, subst, subst⁻¹, List, mul-le-mul_right, lt_of_lt_of_le}
 use Rattle.laws.specs.Prelude.{arith, eqb, length, get_or, replicate, rules, pow_mono}
 use Rattle.rules.specs.Groups.Groups.{multiplicity}
 use Rattle.rules.specs.Nets.Wirings.{Link}

@@ -1,6 +1,7 @@
 -- `gate_tables::fill::fill_gates` meets its contract. The loop's invariant: the first `k` links are filled, and the rows of their wires are written.
 -- Assumes nothing.
-use Rattle.laws.specs.Prelude.{ℕ, ◌≤◌, ◌+◌, ◌-◌, ◌*◌, ◌≡◌, List}
+use Rattle.std.specs.Prelude.{◌≤◌, ◌+◌, ◌-◌, ◌*◌, ◌≡◌}
+use Rattle.laws.specs.Prelude.{ℕ, List}
 use Rattle.laws.specs.Prelude.{length}
 use Rattle.rules.specs.Nets.Wirings.{Link}
 use Rattle.rules.specs.Nets.Filling.{input_groups}

@@ -1,5 +1,6 @@
 -- `gate_tables::fill::join` meets its contract: one more gate is added. Assumes nothing.
-use Rattle.laws.specs.Prelude.{◌*◌, ◌≡◌, add-mul, one-mul, arith, length, rules}
+use Rattle.std.specs.Prelude.{◌*◌, ◌≡◌}
+use Rattle.laws.specs.Prelude.{add-mul, one-mul, arith, length, rules}
 use Rattle.nets.specs.Room.{most_gates, most_digits}
 use Rattle.gate_tables.specs.Growth.{joined_table}
 use Rattle.gate_tables.proofs.fill.join.Goals as goal

@@ -1,5 +1,6 @@
 -- `gate_tables::fill::write_table` meets its contract. The loop's invariant: the first `k` digits are written. Assumes nothing.
-use Rattle.laws.specs.Prelude.{ℕ, ◌<◌, ◌+◌, ◌-◌, ◌≡◌, ◌∙◌, sym, ap, refl, List, add-one, arith, length, get_or, set, length-set, paste, paste-suc}
+use Rattle.std.specs.Prelude.{◌<◌, ◌+◌, ◌-◌, ◌≡◌}
+use Rattle.laws.specs.Prelude.{ℕ, ◌∙◌, sym, ap, refl, List, add-one, arith, length, get_or, set, length-set, paste, paste-suc}
 use Rattle.laws.specs.Prelude.{paste-zero}
 use Rattle.gate_tables.proofs.fill.write_table.Goals as goal
 

@@ -1,5 +1,6 @@
 -- `gate_tables::fill::write_table` meets its contract. The loop's invariant: the first `k` digits are written. Assumes nothing.
-use Rattle.laws.specs.Prelude.{◌≤◌, ◌-◌, ◌≡◌, length, paste}
+use Rattle.std.specs.Prelude.{◌≤◌, ◌-◌, ◌≡◌}
+use Rattle.laws.specs.Prelude.{length, paste}
 use Rattle.gate_tables.proofs.fill.write_table.Given as goal
 
 abbrev pub invariant-loop-k : goal.invariant-loop-k

@@ -1,6 +1,7 @@
 -- `gate_tables::gate_pass::next_row` meets its contract. The loop's invariant: `best` is the row of the least next sum among the first `u` rows.
 -- Assumes nothing.
-use Rattle.laws.specs.Prelude.{◌-◌, arith}
+use Rattle.std.specs.Prelude.{◌-◌}
+use Rattle.laws.specs.Prelude.{arith}
 use Rattle.gate_tables.specs.GateRows.{sum_row_start, sum_row_end, row_better, row_worse}
 use Rattle.gate_tables.proofs.gate_pass.next_row.Goals as goal
 

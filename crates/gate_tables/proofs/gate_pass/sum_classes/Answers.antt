@@ -1,6 +1,7 @@
 -- `gate_tables::gate_pass::sum_classes` meets its contract. The loop's invariant: the classes of the sums done are known. Each turn does one sum.
 -- Assumes nothing.
-use Rattle.laws.specs.Prelude.{ℕ, ◌-◌, ◌≡◌, ◌∙◌, refl, lt_of_lt_of_le, arith, get_or, length-set, get_or-replicate, pow_mono}
+use Rattle.std.specs.Prelude.{◌-◌, ◌≡◌}
+use Rattle.laws.specs.Prelude.{ℕ, ◌∙◌, refl, lt_of_lt_of_le, arith, get_or, length-set, get_or-replicate, pow_mono}
 use Rattle.radix.specs.Fronts.{fits_in}
 use Rattle.gate_tables.specs.GateRows.{sum_of, sums_fewer}
 use Rattle.gate_tables.specs.GatePass.{SumFacts, joint_below, sides_few, sum_facts, sum_within, kept_inside, at_start, at_end, at_many, at_next}

@@ -1,6 +1,7 @@
 -- `gate_tables::gate_pass::sum_classes` meets its contract. The loop's invariant: the classes of the sums done are known. Each turn does one sum.
 -- Assumes nothing.
-use Rattle.laws.specs.Prelude.{◌-◌, ◌≡◌, length}
+use Rattle.std.specs.Prelude.{◌-◌, ◌≡◌}
+use Rattle.laws.specs.Prelude.{length}
 use Rattle.gate_tables.specs.GateRows.{sums_left}
 use Rattle.gate_tables.specs.GatePass.{AtSum}
 use Rattle.gate_tables.proofs.gate_pass.sum_classes.Given as goal

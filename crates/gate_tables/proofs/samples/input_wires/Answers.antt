@@ -1,5 +1,6 @@
 -- `gate_tables::samples::input_wires` meets its contract. The loop's invariant: the rows of the first `i` inputs are written. Assumes nothing.
-use Rattle.laws.specs.Prelude.{ℕ, ◌-◌, ◌^◌, ◌*◌, ◌≡◌, ◌∙◌, sym, ap, refl, subst, mul_comm, arith, get_or, pow_mono}
+use Rattle.std.specs.Prelude.{◌-◌, ◌^◌, ◌*◌, ◌≡◌}
+use Rattle.laws.specs.Prelude.{ℕ, ◌∙◌, sym, ap, refl, subst, mul_comm, arith, get_or, pow_mono}
 use Rattle.rules.specs.Nets.Filling.{input_groups}
 use Rattle.radix.specs.Weights.{weight_fits}
 use Rattle.trees.specs.Filling.Fillings.{inputs_grouped}

@@ -1,5 +1,6 @@
 -- `gate_tables::samples::input_wires` meets its contract. The loop's invariant: the rows of the first `i` inputs are written. Assumes nothing.
-use Rattle.laws.specs.Prelude.{ℕ, ◌≤◌, ◌-◌, ◌≡◌, length}
+use Rattle.std.specs.Prelude.{◌≤◌, ◌-◌, ◌≡◌}
+use Rattle.laws.specs.Prelude.{ℕ, length}
 use Rattle.rules.specs.Nets.Filling.{input_groups}
 use Rattle.gate_tables.specs.Store.{WireRows}
 use Rattle.gate_tables.proofs.samples.input_wires.Given as goal

@@ -1,6 +1,7 @@
 -- `gate_tables::samples::level_points` meets its contract. The loop's invariant: the points of the levels below `l` are written. Assumes
 -- nothing.
-use Rattle.laws.specs.Prelude.{ℕ, ◌<◌, ◌-◌, ◌*◌, ◌≡◌, refl, subst, mul-le-mul_right, lt_of_le_of_lt, le_of_lt, arith}
+use Rattle.std.specs.Prelude.{◌<◌, ◌-◌, ◌*◌, ◌≡◌}
+use Rattle.laws.specs.Prelude.{ℕ, refl, subst, mul-le-mul_right, lt_of_le_of_lt, le_of_lt, arith}
 use Rattle.gate_tables.specs.Store.{PutAt, put_none, put_next}
 use Rattle.gate_tables.proofs.samples.level_points.Goals as goal
 

@@ -1,6 +1,6 @@
 -- `gate_tables::samples::level_points` meets its contract. The loop's invariant: the points of the levels below `l` are written. Assumes
 -- nothing.
-use Rattle.laws.specs.Prelude.{◌≤◌, ◌-◌, ◌*◌}
+use Rattle.std.specs.Prelude.{◌≤◌, ◌-◌, ◌*◌}
 use Rattle.gate_tables.specs.Store.{PutAt}
 use Rattle.gate_tables.proofs.samples.level_points.Given as goal
 

@@ -1,5 +1,6 @@
 -- `gate_tables::samples::put_row` meets its contract. The loop's invariant: the first `i` samples are written. Assumes nothing.
-use Rattle.laws.specs.Prelude.{◌-◌, ◌*◌, ◌≡◌, ◌∙◌, refl, arith, length, get_or, set, length-set}
+use Rattle.std.specs.Prelude.{◌-◌, ◌*◌, ◌≡◌}
+use Rattle.laws.specs.Prelude.{◌∙◌, refl, arith, length, get_or, set, length-set}
 use Rattle.gate_tables.specs.Store.{put_none, put_next, row_put}
 use Rattle.gate_tables.proofs.samples.put_row.Goals as goal
 

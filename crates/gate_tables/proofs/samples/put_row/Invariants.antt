@@ -1,5 +1,6 @@
 -- `gate_tables::samples::put_row` meets its contract. The loop's invariant: the first `i` samples are written. Assumes nothing.
-use Rattle.laws.specs.Prelude.{◌≤◌, ◌+◌, ◌-◌, ◌*◌, get_or}
+use Rattle.std.specs.Prelude.{◌≤◌, ◌+◌, ◌-◌, ◌*◌}
+use Rattle.laws.specs.Prelude.{get_or}
 use Rattle.gate_tables.specs.Store.{PutAt}
 use Rattle.gate_tables.proofs.samples.put_row.Given as goal
 

@@ -1,5 +1,6 @@
 -- `gate_tables::shallow::shallow_net` meets its contract: the fewest layers inside the leaves are found first. Assumes nothing.
-use Rattle.laws.specs.Prelude.{◌≤◌, ◌^◌, ◌≡◌, arith, length, rules, pow_mono}
+use Rattle.std.specs.Prelude.{◌≤◌, ◌^◌, ◌≡◌}
+use Rattle.laws.specs.Prelude.{arith, length, rules, pow_mono}
 use Rattle.rules.specs.Limits.{most_inputs}
 use Rattle.rules.specs.Calls.Answers.{ink_in}
 use Rattle.laws.specs.Numbers.Sizes.{Size, sized}

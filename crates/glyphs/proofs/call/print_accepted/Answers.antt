@@ -1,6 +1,7 @@
 -- `glyphs::call::print_accepted` meets its contract: it tests the picture, the offsets and the output, then prints the glyph.
 -- Assumes nothing.
-use Rattle.laws.specs.Prelude.{◌≡◌, ◌∙◌, sym, true, arith}
+use Rattle.std.specs.Prelude.{◌≡◌}
+use Rattle.laws.specs.Prelude.{◌∙◌, sym, true, arith}
 use Rattle.rules.specs.Calls.Glyphs.{picture_fits, offsets_fit}
 use Rattle.nets.specs.Sound.{sound_size}
 use Rattle.accepted.specs.Taken.{sound}

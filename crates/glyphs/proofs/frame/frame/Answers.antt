@@ -1,5 +1,6 @@
 -- `glyphs::frame::frame` meets its contract. The loop's invariant: the first y rows are in the frame. Assumes nothing.
-use Rattle.laws.specs.Prelude.{ℕ, ◌<◌, ◌≤◌, ◌+◌, ◌-◌, ◌*◌, ◌≡◌, ◌∙◌, sym, ap, refl, subst, List, zero-mul, suc-mul, mul-le-mul, add-one, arith}
+use Rattle.std.specs.Prelude.{◌<◌, ◌≤◌, ◌+◌, ◌-◌, ◌*◌, ◌≡◌}
+use Rattle.laws.specs.Prelude.{ℕ, ◌∙◌, sym, ap, refl, subst, List, zero-mul, suc-mul, mul-le-mul, add-one, arith}
 use Rattle.laws.specs.Prelude.{length, take, drop, length-sets}
 use Rattle.glyphs.specs.Offsets.{span_of, most_span}
 use Rattle.glyphs.specs.Frames.{frame_size, GlyphFraming, framing_none, framing_all, glyph_part_is, row_there, row_room, framing_more}

@@ -1,5 +1,5 @@
 -- `glyphs::frame::frame` meets its contract. The loop's invariant: the first y rows are in the frame. Assumes nothing.
-use Rattle.laws.specs.Prelude.{◌≤◌, ◌+◌, ◌-◌, ◌*◌, ◌≡◌}
+use Rattle.std.specs.Prelude.{◌≤◌, ◌+◌, ◌-◌, ◌*◌, ◌≡◌}
 use Rattle.laws.specs.Prelude.{length}
 use Rattle.glyphs.specs.Frames.{GlyphFraming}
 use Rattle.glyphs.proofs.frame.frame.Given as goal

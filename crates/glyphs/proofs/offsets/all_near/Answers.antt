@@ -1,5 +1,6 @@
 -- `glyphs::offsets::all_near` meets its contract. The loop's invariant: the offsets before k are near. Assumes nothing.
-use Rattle.laws.specs.Prelude.{◌≡◌, ◌∙◌, sym, ap, refl, arith, get_or}
+use Rattle.std.specs.Prelude.{◌≡◌}
+use Rattle.laws.specs.Prelude.{◌∙◌, sym, ap, refl, arith, get_or}
 use lib.IntN.{pos}
 use Rattle.glyphs.specs.Offsets.{element, reach, far_decides, near_passes, glyph_none_left}
 use Rattle.glyphs.proofs.offsets.all_near.Goals as goal

@@ -1,5 +1,6 @@
 -- `glyphs::offsets::all_near` meets its contract. The loop's invariant: the offsets before k are near. Assumes nothing.
-use Rattle.laws.specs.Prelude.{◌≤◌, ◌-◌, ◌≡◌, length, drop}
+use Rattle.std.specs.Prelude.{◌≤◌, ◌-◌, ◌≡◌}
+use Rattle.laws.specs.Prelude.{length, drop}
 use Rattle.glyphs.specs.Offsets.{all_near}
 use Rattle.glyphs.proofs.offsets.all_near.Given as goal
 

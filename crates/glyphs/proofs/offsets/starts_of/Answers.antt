@@ -1,5 +1,6 @@
 -- `glyphs::offsets::starts_of` meets its contract. The loop's invariant: the first i inputs have their starts. Assumes nothing.
-use Rattle.laws.specs.Prelude.{ℕ, ◌<◌, ◌≤◌, ◌+◌, ◌*◌, ◌≡◌, ◌∙◌, ap, refl, ap₂, mul-le-mul, arith, length}
+use Rattle.std.specs.Prelude.{◌<◌, ◌≤◌, ◌+◌, ◌*◌, ◌≡◌}
+use Rattle.laws.specs.Prelude.{ℕ, ◌∙◌, ap, refl, ap₂, mul-le-mul, arith, length}
 use Rattle.rules.specs.Limits.{most_inputs}
 use Rattle.rules.specs.Calls.Glyphs.{across, down}
 use Rattle.glyphs.specs.Offsets.{element, most_span, reach, start_of, across_there, down_there, across_near, down_near, glyph_starts_more}

@@ -1,5 +1,5 @@
 -- `glyphs::offsets::starts_of` meets its contract. The loop's invariant: the first i inputs have their starts. Assumes nothing.
-use Rattle.laws.specs.Prelude.{◌≤◌, ◌-◌}
+use Rattle.std.specs.Prelude.{◌≤◌, ◌-◌}
 use Rattle.glyphs.specs.Offsets.{StartsAt}
 use Rattle.glyphs.proofs.offsets.starts_of.Given as goal
 

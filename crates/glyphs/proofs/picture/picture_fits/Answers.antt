@@ -1,5 +1,6 @@
 -- `glyphs::picture::picture_fits` meets its contract: test by test. Assumes nothing.
-use Rattle.laws.specs.Prelude.{◌≡◌, ◌∙◌, sym, true, arith}
+use Rattle.std.specs.Prelude.{◌≡◌}
+use Rattle.laws.specs.Prelude.{◌∙◌, sym, true, arith}
 use Rattle.rules.specs.Calls.Glyphs.{side_fits}
 use Rattle.glyphs.specs.Pictures.{width_bad, height_bad, few_cells_lem, count_bad, cells_decide}
 use Rattle.glyphs.proofs.picture.picture_fits.Goals as goal

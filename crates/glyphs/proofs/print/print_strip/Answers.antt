@@ -1,5 +1,6 @@
 -- `glyphs::print::print_strip` meets its contract: the net's values at the strip's places, and the rows. Assumes nothing.
-use Rattle.laws.specs.Prelude.{◌≤◌, ◌+◌, ◌*◌, mul-le-mul_right, arith}
+use Rattle.std.specs.Prelude.{◌≤◌, ◌+◌, ◌*◌}
+use Rattle.laws.specs.Prelude.{mul-le-mul_right, arith}
 use Rattle.nets.specs.Sound.{sound_size}
 use Rattle.glyphs.specs.Offsets.{span_of}
 use Rattle.glyphs.specs.Strips.{strip_values_ready, strip_rows_ready, strip_done}

@@ -1,5 +1,6 @@
 -- `glyphs::rows::print_rows` meets its contract. The loop's invariant: the first y rows are written. Assumes nothing.
-use Rattle.laws.specs.Prelude.{ℕ, ◌≤◌, ◌+◌, ◌-◌, ◌≡◌, ◌∙◌, ap, List, arith, length, take, drop, sets}
+use Rattle.std.specs.Prelude.{◌≤◌, ◌+◌, ◌-◌, ◌≡◌}
+use Rattle.laws.specs.Prelude.{ℕ, ◌∙◌, ap, List, arith, length, take, drop, sets}
 use Rattle.glyphs.specs.Offsets.{span_of}
 use Rattle.glyphs.specs.Frames.{glyph_part_is}
 use Rattle.glyphs.specs.Rows.{rows_from, rows_none, rows_length, glyph_row_there, row_fits, row_length, rows_more}

@@ -1,5 +1,5 @@
 -- `glyphs::rows::print_rows` meets its contract. The loop's invariant: the first y rows are written. Assumes nothing.
-use Rattle.laws.specs.Prelude.{◌-◌}
+use Rattle.std.specs.Prelude.{◌-◌}
 use Rattle.glyphs.specs.Rows.{RowsDone}
 use Rattle.glyphs.proofs.rows.print_rows.Given as goal
 

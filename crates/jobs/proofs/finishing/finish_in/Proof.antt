@@ -1,5 +1,6 @@
 -- `jobs::finishing::finish_in` meets its contract: the job's lines are read, or there is no table. Assumes nothing.
-use Rattle.laws.specs.Prelude.{◌^◌, ◌∙◌, arith, take, needs}
+use Rattle.std.specs.Prelude.{◌^◌}
+use Rattle.laws.specs.Prelude.{◌∙◌, arith, take, needs}
 use Rattle.rules.specs.Text.{space}
 use Rattle.jobs.specs.Forms.{Fronted, fronted, not_fronted, front_size}
 use Rattle.jobs.specs.Finishing.{finish_none, finish_front}

@@ -1,5 +1,6 @@
 -- `jobs::finishing::finish_under` meets its contract: a refusal, or what making returns for the job's table. Assumes nothing.
-use Rattle.laws.specs.Prelude.{ℕ, ◌≡◌, ◌∙◌, sym, ap, List, [], needs}
+use Rattle.std.specs.Prelude.{◌≡◌}
+use Rattle.laws.specs.Prelude.{ℕ, ◌∙◌, sym, ap, List, [], needs}
 use Rattle.rules.specs.Calls.Answers.{accepted}
 use Rattle.rules.specs.Calls.Jobs.{may_finish}
 use Rattle.answers.specs.AnswerMaps.{outcome_as}

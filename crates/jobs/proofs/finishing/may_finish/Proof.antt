@@ -1,5 +1,6 @@
 -- `jobs::finishing::may_finish` meets its contract: bare cells, and then whether all groups are passed. Assumes nothing.
-use Rattle.laws.specs.Prelude.{ℕ, ◌-◌, ◌≡◌, ◌∙◌, sym, ap, arith, needs, pow_pos}
+use Rattle.std.specs.Prelude.{◌-◌, ◌≡◌}
+use Rattle.laws.specs.Prelude.{ℕ, ◌∙◌, sym, ap, arith, needs, pow_pos}
 use Rattle.rules.specs.Calls.Answers.{accepted}
 use Rattle.rules.specs.Calls.OpenCells.{full_cells}
 use Rattle.answers.specs.AnswerMaps.{outcome_as}

@@ -1,5 +1,6 @@
 -- `jobs::next::is_whole_of_full` meets its contract. Assumes nothing.
-use Rattle.laws.specs.Prelude.{ℕ, ◌≡◌, arith, length, eqb-true, pow_pos}
+use Rattle.std.specs.Prelude.{◌≡◌}
+use Rattle.laws.specs.Prelude.{ℕ, arith, length, eqb-true, pow_pos}
 use Rattle.laws.specs.Numbers.Sizes.{Size, sized}
 use Rattle.jobs.specs.Stepping.{whole_group_lem}
 use Rattle.jobs.proofs.next.is_whole_of_full.Statement.{statement}

@@ -1,5 +1,6 @@
 -- `jobs::opening::own_lines` meets its contract: what remains to be written after each call. Assumes nothing.
-use Rattle.laws.specs.Prelude.{ℕ, List, [], ◌∷◌, ◌++◌, arith, replicate, needs}
+use Rattle.std.specs.Prelude.{◌∷◌, ◌++◌}
+use Rattle.laws.specs.Prelude.{ℕ, List, [], arith, replicate, needs}
 use Rattle.rules.specs.Text.{space, newline, text, decimal}
 use Rattle.rules.specs.Sheets.Printed.{line}
 use Rattle.readback.specs.Sheets.Header.{head_text}

@@ -1,5 +1,6 @@
 -- `keeping::changed::changed_gates` meets its contract. The loop's invariant: `set` has the changed gates among the first k. Assumes nothing.
-use Rattle.laws.specs.Prelude.{ℕ, ◌<◌, ◌≤◌, ◌+◌, ◌-◌, ◌^◌, ◌≡◌, ◌∙◌, sym, ap, subst⁻¹, arith, pow_mono}
+use Rattle.std.specs.Prelude.{◌<◌, ◌≤◌, ◌+◌, ◌-◌, ◌^◌, ◌≡◌}
+use Rattle.laws.specs.Prelude.{ℕ, ◌∙◌, sym, ap, subst⁻¹, arith, pow_mono}
 use Rattle.nets.specs.declared.forms.Net.{Net}
 use Rattle.nets.specs.Room.{most_gates}
 use Rattle.nets.specs.Sound.{gates_count, sound_size}

@@ -1,5 +1,6 @@
 -- `keeping::changed::same_table` meets its contract: the slices of the forms' digits that it compares are the gate's. Assumes nothing.
-use Rattle.laws.specs.Prelude.{ℕ, ◌≤◌, ◌+◌, ◌-◌, ◌*◌, ◌≡◌, ◌∙◌, refl, ap₂, add-mul, one-mul, arith, length, needs}
+use Rattle.std.specs.Prelude.{◌≤◌, ◌+◌, ◌-◌, ◌*◌, ◌≡◌}
+use Rattle.laws.specs.Prelude.{ℕ, ◌∙◌, refl, ap₂, add-mul, one-mul, arith, length, needs}
 use Rattle.rules.specs.Lists.{same}
 use Rattle.nets.specs.Room.{most_digits, gate_room}
 use Rattle.nets.specs.Sound.{gates_count}

@@ -1,5 +1,6 @@
 -- `keeping::filled::keep_filled` meets its contract: the inks are copied, then 23 at 0 or at a gate, or the new sheet. Assumes nothing.
-use Rattle.laws.specs.Prelude.{◌≤◌, ◌≡◌, ◌∙◌, sym, false, arith, needs}
+use Rattle.std.specs.Prelude.{◌≤◌, ◌≡◌}
+use Rattle.laws.specs.Prelude.{◌∙◌, sym, false, arith, needs}
 use Rattle.rules.specs.Calls.Answers.{ink_in, written}
 use Rattle.rules.specs.Calls.Keeping.{kept_gates, roomy_gates}
 use Rattle.nets.specs.Forms.{gates_of}

@@ -1,5 +1,6 @@
 -- `keeping::left_out::leaves_out` meets its contract. The loop's invariant: the remaining inputs decide. Assumes nothing.
-use Rattle.laws.specs.Prelude.{◌≤◌, ◌-◌, ◌≡◌, ◌∙◌, sym, arith}
+use Rattle.std.specs.Prelude.{◌≤◌, ◌-◌, ◌≡◌}
+use Rattle.laws.specs.Prelude.{◌∙◌, sym, arith}
 use Rattle.rules.specs.Calls.Answers.{ink_in}
 use Rattle.nets.specs.Forms.{gates_of}
 use Rattle.nets.specs.Sound.{gates_count, sound_size}

@@ -1,6 +1,7 @@
 -- `turns_on` meets its contract. The loop's invariant: after k iterations the place is the lister's place after k turns.
 -- Assumes nothing.
-use Rattle.laws.specs.Prelude.{◌≡◌, ◌∙◌, ap, arith}
+use Rattle.std.specs.Prelude.{◌≡◌}
+use Rattle.laws.specs.Prelude.{◌∙◌, ap, arith}
 use Rattle.lister.specs.Places.{stands_at}
 use Rattle.lister.specs.Standing.{stays}
 use Rattle.lister.proofs.calls.turns_on.Goals as goal

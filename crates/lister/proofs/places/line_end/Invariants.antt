@@ -1,6 +1,7 @@
 -- `line_end` meets its contract. The loop's invariant: the line's end from here is the line's end from the start.
 -- Assumes nothing.
-use Rattle.laws.specs.Prelude.{◌+◌, ◌-◌, ◌≡◌, length, drop}
+use Rattle.std.specs.Prelude.{◌+◌, ◌-◌, ◌≡◌}
+use Rattle.laws.specs.Prelude.{length, drop}
 use Rattle.rules.specs.Calls.Lister.{line_length}
 use Rattle.lister.proofs.places.line_end.Given as goal
 

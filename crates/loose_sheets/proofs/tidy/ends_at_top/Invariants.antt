@@ -1,6 +1,7 @@
 -- `loose_sheets::tidy::ends_at_top` terminates and reads no byte outside the sheet. The loop's invariant: the level compared is before the ink.
 -- Assumes nothing.
-use Rattle.laws.specs.Prelude.{◌≤◌, ◌+◌, length}
+use Rattle.std.specs.Prelude.{◌≤◌, ◌+◌}
+use Rattle.laws.specs.Prelude.{length}
 use Rattle.loose_sheets.proofs.tidy.ends_at_top.Given as goal
 
 abbrev pub invariant-loop-p : goal.invariant-loop-p

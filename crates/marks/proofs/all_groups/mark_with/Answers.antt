@@ -1,5 +1,6 @@
 -- `marks::all_groups::mark_with` meets its contract: first the marks below the whole group, then its own. Assumes nothing.
-use Rattle.laws.specs.Prelude.{◌<◌, ◌≤◌, ◌-◌, ◌^◌, ◌≡◌, arith, length, pow_mono, pow_pos}
+use Rattle.std.specs.Prelude.{◌<◌, ◌≤◌, ◌-◌, ◌^◌, ◌≡◌}
+use Rattle.laws.specs.Prelude.{arith, length, pow_mono, pow_pos}
 use Rattle.laws.specs.Numbers.Sizes.{Size, sized}
 use Rattle.rules.specs.Calls.Answers.{ink_in}
 use Rattle.rules.specs.Groups.Groups.{whole_group}

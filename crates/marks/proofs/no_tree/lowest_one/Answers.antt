@@ -1,6 +1,7 @@
 -- `marks::no_tree::lowest_one` meets its contract. The loop's invariant: the search from the current group on gives the same
 -- result. Assumes nothing.
-use Rattle.laws.specs.Prelude.{◌-◌, ◌∙◌, sym, refl, arith}
+use Rattle.std.specs.Prelude.{◌-◌}
+use Rattle.laws.specs.Prelude.{◌∙◌, sym, refl, arith}
 use Rattle.marks.specs.NoTreePlace.{lowest_here, lowest_next, lowest_past}
 use Rattle.marks.proofs.no_tree.lowest_one.Goals as goal
 

@@ -1,6 +1,6 @@
 -- `marks::no_tree::lowest_one` meets its contract. The loop's invariant: the search from the current group on gives the same
 -- result. Assumes nothing.
-use Rattle.laws.specs.Prelude.{◌≤◌, ◌-◌, ◌≡◌}
+use Rattle.std.specs.Prelude.{◌≤◌, ◌-◌, ◌≡◌}
 use Rattle.marks.specs.NoTreePlace.{lowest}
 use Rattle.marks.proofs.no_tree.lowest_one.Given as goal
 

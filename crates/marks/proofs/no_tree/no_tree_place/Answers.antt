@@ -1,6 +1,7 @@
 -- `marks::no_tree::no_tree_place` meets its contract. The loop's invariant: the search from the current size on gives the same
 -- result. Assumes nothing.
-use Rattle.laws.specs.Prelude.{◌-◌, ◌∙◌, sym, refl, arith}
+use Rattle.std.specs.Prelude.{◌-◌}
+use Rattle.laws.specs.Prelude.{◌∙◌, sym, refl, arith}
 use Rattle.marks.specs.NoTreePlace.{place_here, mark_place_next, place_none, place_found, place_missing}
 use Rattle.marks.proofs.no_tree.no_tree_place.Goals as goal
 

@@ -1,5 +1,6 @@
 -- `marks::packing::four` meets its contract: four marks of two bits fill a byte. Assumes nothing.
-use Rattle.laws.specs.Prelude.{ℕ, ◌<◌, ◌+◌, arith, get_or}
+use Rattle.std.specs.Prelude.{◌<◌, ◌+◌}
+use Rattle.laws.specs.Prelude.{ℕ, arith, get_or}
 use Rattle.marks.proofs.packing.four.Goals as goal
 
 pub overflow_mul-result : goal.overflow_mul-result

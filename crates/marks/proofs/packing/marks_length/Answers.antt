@@ -1,5 +1,6 @@
 -- `marks::packing::marks_length` meets its contract: one byte for every four groups. Assumes nothing.
-use Rattle.laws.specs.Prelude.{ℕ, ◌/◌, ap}
+use Rattle.std.specs.Prelude.{◌/◌}
+use Rattle.laws.specs.Prelude.{ℕ, ap}
 use Rattle.rules.specs.Groups.Marks.{marks_length}
 use Rattle.marks.proofs.packing.marks_length.Goals as goal
 

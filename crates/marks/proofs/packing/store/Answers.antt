@@ -1,6 +1,7 @@
 -- `marks::packing::store` meets its contract. The loop's invariant: the bytes of the marks below g, a multiple of four, are at the buffer's front.
 -- Assumes nothing.
-use Rattle.laws.specs.Prelude.{ℕ, ◌<◌, ◌+◌, ◌-◌, ◌^◌, ◌/◌, ◌≡◌, ◌∙◌, ap, refl, arith, length, take, set, length-set, pow_mono}
+use Rattle.std.specs.Prelude.{◌<◌, ◌+◌, ◌-◌, ◌^◌, ◌/◌, ◌≡◌}
+use Rattle.laws.specs.Prelude.{ℕ, ◌∙◌, ap, refl, arith, length, take, set, length-set, pow_mono}
 use Rattle.rules.specs.Groups.Marks.{stored_marks}
 use Rattle.rules.specs.Calls.Answers.{written}
 use Rattle.laws.specs.Nets.StoredMarks.{four_groups}

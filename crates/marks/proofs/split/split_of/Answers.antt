@@ -1,6 +1,7 @@
 -- `marks::split::split_of` meets its contract. The loop's invariant: the search from the current part on gives the same result.
 -- Assumes nothing.
-use Rattle.laws.specs.Prelude.{◌<◌, ◌+◌, ◌-◌, ◌∙◌, sym, arith}
+use Rattle.std.specs.Prelude.{◌<◌, ◌+◌, ◌-◌}
+use Rattle.laws.specs.Prelude.{◌∙◌, sym, arith}
 use Rattle.rules.specs.Nets.Settled.{split_of}
 use Rattle.radix.specs.Widths.{most_members}
 use Rattle.marks.specs.FirstParts.{settled_looked}

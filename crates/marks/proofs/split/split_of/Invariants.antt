@@ -1,6 +1,6 @@
 -- `marks::split::split_of` meets its contract. The loop's invariant: the search from the current part on gives the same result.
 -- Assumes nothing.
-use Rattle.laws.specs.Prelude.{◌-◌}
+use Rattle.std.specs.Prelude.{◌-◌}
 use Rattle.marks.specs.FirstParts.{settled_test}
 use Rattle.marks.specs.Searching.{Sought}
 use Rattle.marks.proofs.split.split_of.Given as goal

@@ -1,5 +1,6 @@
 -- `nets::layers::layers` meets its contract. The loop's invariant: the layers of the first k gates are known. Assumes nothing.
-use Rattle.laws.specs.Prelude.{ℕ, ◌<◌, ◌≤◌, ◌+◌, refl, List, arith}
+use Rattle.std.specs.Prelude.{◌<◌, ◌≤◌, ◌+◌}
+use Rattle.laws.specs.Prelude.{ℕ, refl, List, arith}
 use Rattle.nets.specs.declared.forms.Net.{Net}
 use Rattle.nets.specs.Room.{most_wires}
 use Rattle.nets.specs.Sound.{Sound, gates_pos, wires_room}

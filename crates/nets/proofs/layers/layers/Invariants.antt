@@ -1,5 +1,5 @@
 -- `nets::layers::layers` meets its contract. The loop's invariant: the layers of the first k gates are known. Assumes nothing.
-use Rattle.laws.specs.Prelude.{◌-◌}
+use Rattle.std.specs.Prelude.{◌-◌}
 use Rattle.nets.proofs.Depths.{Depths}
 use Rattle.nets.proofs.layers.layers.Given as goal
 

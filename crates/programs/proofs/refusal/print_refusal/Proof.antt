@@ -1,6 +1,7 @@
 -- `programs::refusal::print_refusal` meets its contract: 55 bytes suffice for every number and place.
 -- Assumes nothing.
-use Rattle.laws.specs.Prelude.{◌≤◌, arith, length, needs}
+use Rattle.std.specs.Prelude.{◌≤◌}
+use Rattle.laws.specs.Prelude.{arith, length, needs}
 use Rattle.rules.specs.Text.{space, newline, text}
 use Rattle.rules.specs.Sheets.Printed.{line}
 use Rattle.rules.specs.Calls.Programs.{refusal_lines}

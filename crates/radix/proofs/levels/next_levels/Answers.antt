@@ -1,6 +1,7 @@
 -- `radix::levels::next_levels` meets its contract. The loop's invariant: stepping the first i levels from here gives what stepping the
 -- first n gives at the start. Assumes nothing.
-use Rattle.laws.specs.Prelude.{◌-◌, ◌∙◌, sym, refl, arith, length-set}
+use Rattle.std.specs.Prelude.{◌-◌}
+use Rattle.laws.specs.Prelude.{◌∙◌, sym, refl, arith, length-set}
 use Rattle.radix.proofs.Stepping.{step_none, step_up, step_turn}
 use Rattle.radix.proofs.levels.next_levels.Goals as goal
 

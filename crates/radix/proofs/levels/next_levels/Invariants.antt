@@ -1,6 +1,7 @@
 -- `radix::levels::next_levels` meets its contract. The loop's invariant: stepping the first i levels from here gives what stepping the
 -- first n gives at the start. Assumes nothing.
-use Rattle.laws.specs.Prelude.{◌≤◌, ◌≡◌, length}
+use Rattle.std.specs.Prelude.{◌≤◌, ◌≡◌}
+use Rattle.laws.specs.Prelude.{length}
 use Rattle.radix.proofs.Stepping.{stepped}
 use Rattle.radix.proofs.levels.next_levels.Given as goal
 

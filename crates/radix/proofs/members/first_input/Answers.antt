@@ -1,6 +1,7 @@
 -- `radix::members::first_input` meets its contract. The loop's invariant: the first place from `i` on is the first of all. Assumes
 -- nothing.
-use Rattle.laws.specs.Prelude.{ℕ, ◌<◌, ◌≡◌, ◌∙◌, sym, ap, Bool, zero-add, arith, get_or}
+use Rattle.std.specs.Prelude.{◌<◌, ◌≡◌}
+use Rattle.laws.specs.Prelude.{ℕ, ◌∙◌, sym, ap, Bool, zero-add, arith, get_or}
 use Rattle.rules.specs.Lists.{range}
 use Rattle.rules.specs.Groups.Groups.{member}
 use Rattle.rules.specs.Nets.Wirings.{first_input}

@@ -1,6 +1,7 @@
 -- `radix::members::first_input` meets its contract. The loop's invariant: the first place from `i` on is the first of all. Assumes
 -- nothing.
-use Rattle.laws.specs.Prelude.{◌≤◌, ◌+◌, ◌-◌, ◌≡◌, drop}
+use Rattle.std.specs.Prelude.{◌≤◌, ◌+◌, ◌-◌, ◌≡◌}
+use Rattle.laws.specs.Prelude.{drop}
 use Rattle.rules.specs.Lists.{range, first_place}
 use Rattle.rules.specs.Groups.Groups.{member}
 use Rattle.rules.specs.Nets.Wirings.{first_input}

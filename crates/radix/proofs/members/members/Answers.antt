@@ -1,6 +1,7 @@
 -- `radix::members::members` meets its contract. The loop's invariant: the members so far, plus those among the inputs that are
 -- left, are all members. Assumes nothing.
-use Rattle.laws.specs.Prelude.{◌+◌, ◌-◌, suc, ◌≡◌, ap, sub-zero, arith}
+use Rattle.std.specs.Prelude.{◌+◌, ◌-◌, ◌≡◌}
+use Rattle.laws.specs.Prelude.{suc, ap, sub-zero, arith}
 use Rattle.rules.specs.Groups.Groups.{size}
 use Rattle.trees.specs.Groups.Members.{size_suc, size_le}
 use Rattle.radix.proofs.members.members.Goals as goal

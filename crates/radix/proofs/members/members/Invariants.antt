@@ -1,6 +1,6 @@
 -- `radix::members::members` meets its contract. The loop's invariant: the members so far, plus those among the inputs that are
 -- left, are all members. Assumes nothing.
-use Rattle.laws.specs.Prelude.{◌≤◌, ◌+◌, ◌-◌, ◌≡◌}
+use Rattle.std.specs.Prelude.{◌≤◌, ◌+◌, ◌-◌, ◌≡◌}
 use Rattle.rules.specs.Groups.Groups.{size}
 use Rattle.radix.proofs.members.members.Given as goal
 

@@ -1,6 +1,7 @@
 -- `radix::offsets::offsets` meets its contract. The loop's invariant: the offsets are those of the inputs from `i` on.
 -- Assumes nothing.
-use Rattle.laws.specs.Prelude.{◌≡◌, length}
+use Rattle.std.specs.Prelude.{◌≡◌}
+use Rattle.laws.specs.Prelude.{length}
 use Rattle.radix.proofs.Building.{Built}
 use Rattle.radix.proofs.offsets.offsets.Given as goal
 

@@ -1,6 +1,7 @@
 -- `radix::offsets::widen` meets its contract. The loop's invariant: the first `j` entries are those of the widened list.
 -- Assumes nothing.
-use Rattle.laws.specs.Prelude.{ℕ, ◌<◌, ◌^◌, ◌*◌, ◌≡◌, ◌∙◌, refl, subst, subst⁻¹, mul-one, mul-le-mul_left, arith, take, length-set}
+use Rattle.std.specs.Prelude.{◌<◌, ◌^◌, ◌*◌, ◌≡◌}
+use Rattle.laws.specs.Prelude.{ℕ, ◌∙◌, refl, subst, subst⁻¹, mul-one, mul-le-mul_left, arith, take, length-set}
 use Rattle.laws.specs.Prelude.{take_all}
 use Rattle.radix.proofs.Widening.{whole, whole_length, starts, entry, turn, small}
 use Rattle.radix.proofs.offsets.widen.Goals as goal

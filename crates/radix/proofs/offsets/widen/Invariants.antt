@@ -1,6 +1,7 @@
 -- `radix::offsets::widen` meets its contract. The loop's invariant: the first `j` entries are those of the widened list.
 -- Assumes nothing.
-use Rattle.laws.specs.Prelude.{◌≤◌, ◌-◌, ◌*◌, ◌≡◌, length, take}
+use Rattle.std.specs.Prelude.{◌≤◌, ◌-◌, ◌*◌, ◌≡◌}
+use Rattle.laws.specs.Prelude.{length, take}
 use Rattle.radix.proofs.offsets.widen.Given as goal
 
 abbrev pub invariant-loop-j : goal.invariant-loop-j

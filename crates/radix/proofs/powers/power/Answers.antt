@@ -1,5 +1,6 @@
 -- `radix::powers::power` meets its contract. The loop's invariant: `p` is m to the power `i`. Assumes nothing.
-use Rattle.laws.specs.Prelude.{ℕ, ◌<◌, ◌≤◌, ◌+◌, ◌^◌, ◌*◌, ◌≡◌, ◌∙◌, sym, ap, subst⁻¹, pow-suc, le_trans, pow-zero, pow-le-pow_right, lt_of_le_of_lt}
+use Rattle.std.specs.Prelude.{◌<◌, ◌≤◌, ◌+◌, ◌^◌, ◌*◌, ◌≡◌}
+use Rattle.laws.specs.Prelude.{ℕ, ◌∙◌, sym, ap, subst⁻¹, pow-suc, le_trans, pow-zero, pow-le-pow_right, lt_of_le_of_lt}
 use Rattle.laws.specs.Prelude.{pow-le-pow_left, zero-lt-suc, add-one, arith, lit<}
 use Rattle.rules.specs.Limits.{most_levels}
 use Rattle.radix.specs.Widths.{most_members}

@@ -1,5 +1,5 @@
 -- `radix::powers::power` meets its contract. The loop's invariant: `p` is m to the power `i`. Assumes nothing.
-use Rattle.laws.specs.Prelude.{◌≤◌, ◌-◌, ◌^◌, ◌≡◌}
+use Rattle.std.specs.Prelude.{◌≤◌, ◌-◌, ◌^◌, ◌≡◌}
 use Rattle.radix.proofs.powers.power.Given as goal
 
 abbrev pub invariant-loop-i : goal.invariant-loop-i

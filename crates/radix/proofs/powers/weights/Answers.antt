@@ -1,6 +1,7 @@
 -- `radix::powers::weights` meets its contract. The loop's invariant: the inputs from `i` on have their weights, and `w` is the next. Assumes
 -- nothing.
-use Rattle.laws.specs.Prelude.{ℕ, ◌<◌, ◌≤◌, ◌-◌, ◌^◌, suc, ◌*◌, ◌≡◌, ◌∙◌, sym, ap, refl, subst⁻¹, List, pow-suc, pow-zero, pow-le-pow_right, ℕ_discrete}
+use Rattle.std.specs.Prelude.{◌<◌, ◌≤◌, ◌-◌, ◌^◌, ◌*◌, ◌≡◌}
+use Rattle.laws.specs.Prelude.{ℕ, suc, ◌∙◌, sym, ap, refl, subst⁻¹, List, pow-suc, pow-zero, pow-le-pow_right, ℕ_discrete}
 use Rattle.laws.specs.Prelude.{arith, length, get_or, set, length-set, get_or-set_same, get_or-set_other}
 use Rattle.radix.proofs.powers.weights.Goals as goal
 

@@ -1,6 +1,7 @@
 -- `radix::powers::weights` meets its contract. The loop's invariant: the inputs from `i` on have their weights, and `w` is the next. Assumes
 -- nothing.
-use Rattle.laws.specs.Prelude.{ℕ, ◌<◌, ◌≤◌, ◌-◌, ◌^◌, ◌≡◌}
+use Rattle.std.specs.Prelude.{◌<◌, ◌≤◌, ◌-◌, ◌^◌, ◌≡◌}
+use Rattle.laws.specs.Prelude.{ℕ}
 use Rattle.laws.specs.Prelude.{length, get_or}
 use Rattle.radix.proofs.powers.weights.Given as goal
 

@@ -1,5 +1,6 @@
 -- `representatives::classifying::classify` meets its contract: too many classes, with witness columns, or few, which are recorded. Assumes nothing.
-use Rattle.laws.specs.Prelude.{◌<◌, arith, length, pow_mono, pow_pos}
+use Rattle.std.specs.Prelude.{◌<◌}
+use Rattle.laws.specs.Prelude.{arith, length, pow_mono, pow_pos}
 use Rattle.representatives.specs.Columns.{columns_of}
 use Rattle.representatives.specs.Shifts.{shifted}
 use Rattle.representatives.specs.Counting.{counting_fits, counting_told, counting_many, counting_cover, counting_exact, judged_many, judged_few}

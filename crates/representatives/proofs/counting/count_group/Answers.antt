@@ -1,5 +1,6 @@
 -- `representatives::counting::count_group` meets its contract: rows from a group inside it, columns from a group of other inputs. Assumes nothing.
-use Rattle.laws.specs.Prelude.{◌<◌, ◌-◌, ◌^◌, ◌≡◌, true, arith, get_or}
+use Rattle.std.specs.Prelude.{◌<◌, ◌-◌, ◌^◌, ◌≡◌}
+use Rattle.laws.specs.Prelude.{true, arith, get_or}
 use Rattle.rules.specs.Groups.Marks.{inside}
 use Rattle.rules.specs.Calls.Answers.{ink_in}
 use Rattle.rules.specs.Nets.Trees.{Apart}

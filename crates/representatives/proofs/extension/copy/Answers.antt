@@ -1,5 +1,6 @@
 -- `representatives::extension::copy` meets its contract. The loop's invariant: `k` numbers are copied; below `b` nothing changed. Assumes nothing.
-use Rattle.laws.specs.Prelude.{ℕ, ◌+◌, ◌-◌, ◌≡◌, ◌∙◌, refl, subst, arith, length-set}
+use Rattle.std.specs.Prelude.{◌+◌, ◌-◌, ◌≡◌}
+use Rattle.laws.specs.Prelude.{ℕ, ◌∙◌, refl, subst, arith, length-set}
 use Rattle.representatives.specs.Copies.{Copied, copied_next}
 use Rattle.representatives.proofs.extension.copy.Goals as goal
 

@@ -1,5 +1,6 @@
 -- `representatives::extension::copy` meets its contract. The loop's invariant: `k` numbers are copied; below `b` nothing changed. Assumes nothing.
-use Rattle.laws.specs.Prelude.{◌≤◌, ◌-◌, ◌≡◌, length}
+use Rattle.std.specs.Prelude.{◌≤◌, ◌-◌, ◌≡◌}
+use Rattle.laws.specs.Prelude.{length}
 use Rattle.representatives.specs.Copies.{Copied}
 use Rattle.representatives.proofs.extension.copy.Given as goal
 

@@ -1,4 +1,5 @@
-use Rattle.laws.specs.Prelude.{◌+◌, ◌*◌, arith}
+use Rattle.std.specs.Prelude.{◌+◌, ◌*◌}
+use Rattle.laws.specs.Prelude.{arith}
 use lib.Bits.{and_self}
 use Rattle.representatives.proofs.extension.few_inside.Reads as reads
 use Rattle.representatives.proofs.extension.few_inside.Lts as lts

@@ -1,6 +1,7 @@
 -- `representatives::extension::spread` meets its contract. Loop invariant: the assignments so far cover the group without the remaining members.
 -- Assumes nothing.
-use Rattle.laws.specs.Prelude.{◌-◌, ◌^◌, ◌≡◌, arith, pow_pos}
+use Rattle.std.specs.Prelude.{◌-◌, ◌^◌, ◌≡◌}
+use Rattle.laws.specs.Prelude.{arith, pow_pos}
 use Rattle.rules.specs.Nets.Wirings.{first_input}
 use Rattle.representatives.proofs.Spreading.{spreads_none, spreads_all, spreads_group, spreads_input, spreads_room, spreads_small, spreads_next}
 use Rattle.representatives.proofs.extension.spread.Goals as goal

@@ -1,5 +1,6 @@
 -- `representatives::first_rows::alike_by` meets its contract: if a column distinguishes two rows, they are not alike. Assumes nothing.
-use Rattle.laws.specs.Prelude.{◌<◌, ◌+◌, sym, subst, arith, length}
+use Rattle.std.specs.Prelude.{◌<◌, ◌+◌}
+use Rattle.laws.specs.Prelude.{sym, subst, arith, length}
 use Rattle.rules.specs.Calls.Answers.{ink_in}
 use Rattle.representatives.specs.Columns.{columns_of, ApartBy, column_within}
 use Rattle.representatives.specs.Apart.{unlike_at}

@@ -1,5 +1,6 @@
 -- `representatives::first_rows::class_of` meets its contract. The loop's invariant: none of the first j is alike. Assumes nothing.
-use Rattle.laws.specs.Prelude.{ℕ, ◌<◌, ◌≤◌, ◌-◌, ◌≡◌, false, get_or}
+use Rattle.std.specs.Prelude.{◌<◌, ◌≤◌, ◌-◌, ◌≡◌}
+use Rattle.laws.specs.Prelude.{ℕ, false, get_or}
 use Rattle.rules.specs.Calls.Answers.{ink_in}
 use Rattle.rules.specs.Groups.Groups.{alike_over}
 use Rattle.representatives.specs.Columns.{columns_of}

@@ -1,6 +1,7 @@
 -- `representatives::first_rows::row_firsts` meets its contract. The loop's invariant: what is kept and the remaining rows give the classes of all.
 -- Assumes nothing.
-use Rattle.laws.specs.Prelude.{◌<◌, ◌+◌, ◌-◌, ◌∙◌, refl, subst, add-zero, arith, length, length-set}
+use Rattle.std.specs.Prelude.{◌<◌, ◌+◌, ◌-◌}
+use Rattle.laws.specs.Prelude.{◌∙◌, refl, subst, add-zero, arith, length, length-set}
 use Rattle.rules.specs.Calls.Answers.{ink_in}
 use Rattle.representatives.specs.Columns.{columns_of, Column, columns_some, column_there}
 use Rattle.classes.specs.Counting.{firsts_found_one, kept_all, kept_enough, kept_known, kept_new}

@@ -1,6 +1,7 @@
 -- `representatives::first_rows::row_firsts` meets its contract. The loop's invariant: what is kept and the remaining rows give the classes of all.
 -- Assumes nothing.
-use Rattle.laws.specs.Prelude.{◌<◌, ◌≤◌, ◌+◌, ◌-◌, ◌≡◌, length}
+use Rattle.std.specs.Prelude.{◌<◌, ◌≤◌, ◌+◌, ◌-◌, ◌≡◌}
+use Rattle.laws.specs.Prelude.{length}
 use Rattle.rules.specs.Calls.Answers.{ink_in}
 use Rattle.representatives.specs.Columns.{columns_of, Column}
 use Rattle.classes.specs.Counting.{FirstsFound}

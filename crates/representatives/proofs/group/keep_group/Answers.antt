@@ -1,5 +1,6 @@
 -- `representatives::group::keep_group` meets its contract: the empty group, too many classes that pass on, or a count. Assumes nothing.
-use Rattle.laws.specs.Prelude.{◌<◌, ◌≤◌, ◌+◌, ◌-◌, ◌*◌, ◌≡◌, subst, arith, length, get_or}
+use Rattle.std.specs.Prelude.{◌<◌, ◌≤◌, ◌+◌, ◌-◌, ◌*◌, ◌≡◌}
+use Rattle.laws.specs.Prelude.{subst, arith, length, get_or}
 use Rattle.representatives.specs.Known.{Base}
 use Rattle.representatives.specs.Sources.{PassesOn, OneOf}
 use Rattle.representatives.specs.Working.{step_level, step_own_places, step_counted}

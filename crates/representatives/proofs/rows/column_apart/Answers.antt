@@ -1,5 +1,6 @@
 -- `representatives::rows::column_apart` meets its contract: with a run of one the columns are the heads. Assumes nothing.
-use Rattle.laws.specs.Prelude.{ℕ, ◌≡◌, ◌∙◌, ap, subst, subst⁻¹, List, length}
+use Rattle.std.specs.Prelude.{◌≡◌}
+use Rattle.laws.specs.Prelude.{ℕ, ◌∙◌, ap, subst, subst⁻¹, List, length}
 use Rattle.rules.specs.Calls.Answers.{ink_in}
 use Rattle.classes.specs.Within.{Within}
 use Rattle.representatives.specs.Columns.{columns_of, ApartBy, columns_one}

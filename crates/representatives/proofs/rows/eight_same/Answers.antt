@@ -1,5 +1,6 @@
 -- `representatives::rows::eight_same` meets its contract. Loop invariant: if none differs so far, all cells so far are the same. Assumes nothing.
-use Rattle.laws.specs.Prelude.{◌-◌, ⊎_elim, arith, eqb-true}
+use Rattle.std.specs.Prelude.{◌-◌}
+use Rattle.laws.specs.Prelude.{⊎_elim, arith, eqb-true}
 use borrow.Author.Count.{below_more}
 use Rattle.representatives.proofs.rows.eight_same.Goals as goal
 use Rattle.representatives.proofs.rows.eight_same.Goals.{then-cells-a, else-cells-a}

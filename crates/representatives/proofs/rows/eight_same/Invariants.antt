@@ -1,5 +1,5 @@
 -- `representatives::rows::eight_same` meets its contract. Loop invariant: if none differs so far, all cells so far are the same. Assumes nothing.
-use Rattle.laws.specs.Prelude.{◌≤◌, ◌-◌, ◌≡◌}
+use Rattle.std.specs.Prelude.{◌≤◌, ◌-◌, ◌≡◌}
 use Rattle.rules.specs.Calls.Answers.{ink_in}
 use Rattle.representatives.specs.Runs.{SameRuns}
 use Rattle.representatives.proofs.rows.eight_same.Given as goal

@@ -1,5 +1,6 @@
 -- `representatives::rows::run_apart` meets its contract. The loop's invariant: the cells so far are the same. Assumes nothing.
-use Rattle.laws.specs.Prelude.{◌-◌, arith}
+use Rattle.std.specs.Prelude.{◌-◌}
+use Rattle.laws.specs.Prelude.{arith}
 use borrow.Author.Count.{below_more}
 use Rattle.representatives.proofs.rows.run_apart.Goals as goal
 

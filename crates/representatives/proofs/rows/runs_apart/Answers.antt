@@ -1,5 +1,6 @@
 -- `representatives::rows::runs_apart` meets its contract. Loop invariant: the cells are the same in the runs of the heads so far. Assumes nothing.
-use Rattle.laws.specs.Prelude.{◌<◌, ◌≤◌, ◌+◌, ◌-◌, arith, length, get_or}
+use Rattle.std.specs.Prelude.{◌<◌, ◌≤◌, ◌+◌, ◌-◌}
+use Rattle.laws.specs.Prelude.{arith, length, get_or}
 use Rattle.rules.specs.Calls.Answers.{ink_in}
 use Rattle.representatives.specs.Columns.{columns_of, column_within, column_there, runs_alike, heads_next, run_differs}
 use Rattle.representatives.proofs.rows.runs_apart.Goals as goal

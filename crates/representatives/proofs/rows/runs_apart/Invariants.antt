@@ -1,5 +1,6 @@
 -- `representatives::rows::runs_apart` meets its contract. Loop invariant: the cells are the same in the runs of the heads so far. Assumes nothing.
-use Rattle.laws.specs.Prelude.{◌≤◌, ◌-◌, length}
+use Rattle.std.specs.Prelude.{◌≤◌, ◌-◌}
+use Rattle.laws.specs.Prelude.{length}
 use Rattle.rules.specs.Calls.Answers.{ink_in}
 use Rattle.representatives.specs.Columns.{SameHeads}
 use Rattle.representatives.proofs.rows.runs_apart.Given as goal

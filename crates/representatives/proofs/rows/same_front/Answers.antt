@@ -1,5 +1,6 @@
 -- `representatives::rows::same_front` meets its contract. The loop's invariant: the cells so far are the same. Assumes nothing.
-use Rattle.laws.specs.Prelude.{◌-◌, arith}
+use Rattle.std.specs.Prelude.{◌-◌}
+use Rattle.laws.specs.Prelude.{arith}
 use Rattle.rules.specs.Calls.Answers.{ink_in}
 use Rattle.representatives.specs.Runs.{same_further}
 use Rattle.representatives.proofs.rows.same_front.Goals as goal

@@ -1,5 +1,5 @@
 -- `representatives::rows::same_front` meets its contract. The loop's invariant: the cells so far are the same. Assumes nothing.
-use Rattle.laws.specs.Prelude.{◌≤◌, ◌-◌}
+use Rattle.std.specs.Prelude.{◌≤◌, ◌-◌}
 use Rattle.rules.specs.Calls.Answers.{ink_in}
 use Rattle.representatives.specs.Runs.{SameRuns}
 use Rattle.representatives.proofs.rows.same_front.Given as goal

@@ -1,4 +1,5 @@
-use Rattle.laws.specs.Prelude.{◌*◌, false≢true, arith, eqb-false, not-true}
+use Rattle.std.specs.Prelude.{◌*◌}
+use Rattle.laws.specs.Prelude.{false≢true, arith, eqb-false, not-true}
 use Rattle.representatives.proofs.source.passes_on.Reads as reads
 use Rattle.representatives.proofs.source.passes_on.Lts as lts
 use Rattle.representatives.proofs.source.passes_on.Goals as goal

@@ -1,6 +1,7 @@
 -- `representatives::source::source` meets its contract. Loop invariant: the members still to be tried are members of g, and so is the best so far.
 -- Assumes nothing.
-use Rattle.laws.specs.Prelude.{◌<◌, ◌≤◌, ◌-◌, ◌^◌, arith}
+use Rattle.std.specs.Prelude.{◌<◌, ◌≤◌, ◌-◌, ◌^◌}
+use Rattle.laws.specs.Prelude.{arith}
 use Rattle.representatives.specs.Known.{places_before}
 use Rattle.representatives.proofs.Taking.{takes_none, takes_one, takes_less, takes_next}
 use Rattle.representatives.proofs.source.source.Goals as goal

@@ -1,4 +1,5 @@
-use Rattle.laws.specs.Prelude.{ℕ, ◌<◌, ◌-◌, ◌/◌, ap, subst⁻¹, ⊎_elim, arith}
+use Rattle.std.specs.Prelude.{◌<◌, ◌-◌, ◌/◌}
+use Rattle.laws.specs.Prelude.{ℕ, ap, subst⁻¹, ⊎_elim, arith}
 use Rattle.radix.specs.Widths.{most_members}
 use Rattle.representatives.specs.Shifts.{shifted}
 use Rattle.representatives.proofs.Agreeing.{Agrees, agrees_none, agrees_all, agrees_some, agrees_same, agrees_other, one_of_all}

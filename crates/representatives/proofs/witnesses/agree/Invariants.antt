@@ -1,4 +1,4 @@
-use Rattle.laws.specs.Prelude.{◌-◌}
+use Rattle.std.specs.Prelude.{◌-◌}
 use Rattle.representatives.proofs.Agreeing.{Agrees}
 use Rattle.representatives.proofs.witnesses.agree.Reads as reads
 use Rattle.representatives.proofs.witnesses.agree.Lts as lts

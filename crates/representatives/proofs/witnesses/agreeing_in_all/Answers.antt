@@ -1,6 +1,7 @@
 -- `representatives::witnesses::agreeing_in_all` meets its contract. The loop's invariant: columns distinguish each row after row `k` from all rows
 -- before it. Assumes nothing.
-use Rattle.laws.specs.Prelude.{◌<◌, ◌-◌, subst, add-zero, arith, length}
+use Rattle.std.specs.Prelude.{◌<◌, ◌-◌}
+use Rattle.laws.specs.Prelude.{subst, add-zero, arith, length}
 use Rattle.representatives.specs.Columns.{columns_of, columns_some, column_there, Column}
 use Rattle.representatives.specs.Witnesses.{from_next, from_all}
 use Rattle.representatives.proofs.witnesses.agreeing_in_all.Goals as goal

@@ -1,6 +1,6 @@
 -- `representatives::witnesses::agreeing_in_all` meets its contract. The loop's invariant: columns distinguish each row after row `k` from all rows
 -- before it. Assumes nothing.
-use Rattle.laws.specs.Prelude.{◌-◌}
+use Rattle.std.specs.Prelude.{◌-◌}
 use Rattle.rules.specs.Calls.Answers.{ink_in}
 use Rattle.representatives.specs.Columns.{columns_of}
 use Rattle.representatives.specs.Witnesses.{ToldFrom}

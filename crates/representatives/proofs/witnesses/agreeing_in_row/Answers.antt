@@ -1,5 +1,6 @@
 -- `representatives::witnesses::agreeing_in_row` meets its contract. Loop invariant: columns distinguish the row from the first `j`. Assumes nothing.
-use Rattle.laws.specs.Prelude.{ℕ, ◌-◌, ◌≡◌, subst, arith}
+use Rattle.std.specs.Prelude.{◌-◌, ◌≡◌}
+use Rattle.laws.specs.Prelude.{ℕ, subst, arith}
 use Rattle.rules.specs.Calls.Answers.{ink_in}
 use Rattle.representatives.specs.Columns.{columns_of}
 use Rattle.representatives.specs.Witnesses.{ToldRow, row_none, row_next}

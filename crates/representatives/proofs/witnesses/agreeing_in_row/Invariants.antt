@@ -1,5 +1,5 @@
 -- `representatives::witnesses::agreeing_in_row` meets its contract. Loop invariant: columns distinguish the row from the first `j`. Assumes nothing.
-use Rattle.laws.specs.Prelude.{◌≤◌, ◌-◌}
+use Rattle.std.specs.Prelude.{◌≤◌, ◌-◌}
 use Rattle.rules.specs.Calls.Answers.{ink_in}
 use Rattle.representatives.specs.Columns.{columns_of}
 use Rattle.representatives.specs.Witnesses.{ToldRow}

@@ -1,6 +1,7 @@
 -- `representatives::witnesses::agreeing_inputs` meets its contract: with no inputs any column will do; the column `base` distinguishes the two rows,
 -- or the first that does is compared with it. Assumes nothing.
-use Rattle.laws.specs.Prelude.{◌<◌, ◌+◌, arith, length}
+use Rattle.std.specs.Prelude.{◌<◌, ◌+◌}
+use Rattle.laws.specs.Prelude.{arith, length}
 use Rattle.representatives.specs.Columns.{columns_of, column_within}
 use Rattle.representatives.specs.Witnesses.{told_any, told_here, told_there}
 use Rattle.representatives.proofs.witnesses.agreeing_inputs.Goals as goal

@@ -1,5 +1,6 @@
 -- `settling::into::settle_into` meets its contract. Assumes nothing.
-use Rattle.laws.specs.Prelude.{◌≡◌, ◌∙◌, sym, ap}
+use Rattle.std.specs.Prelude.{◌≡◌}
+use Rattle.laws.specs.Prelude.{◌∙◌, sym, ap}
 use Rattle.rules.specs.Calls.Answers.{accepted}
 use Rattle.rules.specs.Calls.Settling.{room_for}
 use Rattle.nets.specs.Forms.{table_in}

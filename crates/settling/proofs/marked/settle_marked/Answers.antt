@@ -1,5 +1,6 @@
 -- `settling::marked::settle_marked` meets its contract. Assumes nothing.
-use Rattle.laws.specs.Prelude.{◌≤◌, ◌^◌, sym, le_of_eq, arith, length, pow_mono}
+use Rattle.std.specs.Prelude.{◌≤◌, ◌^◌}
+use Rattle.laws.specs.Prelude.{sym, le_of_eq, arith, length, pow_mono}
 use Rattle.rules.specs.Limits.{most_inputs}
 use Rattle.laws.specs.Numbers.Sizes.{sized}
 use Rattle.net_sheets.specs.Text.Put.{put_wrote}
@@ -9,26 +10,26 @@ use Rattle.settling.proofs.marked.settle_marked.Goals as goal
 
 pub mark_and_store-marked-requires : goal.mark_and_store-marked-requires
 mark_and_store-marked-requires c =
-    let room : 2 ^ c.args.header.inputs ≤ 2 ^ most_inputs = 
-        let h = c.args.header in
-        pow_mono {i = h.inputs} {j = most_inputs} (sized h.levels h.inputs (given_size _ _ _ c.requires.0)).inputs_most in
+    let room : 2 ^ c.args.header.inputs ≤ 2 ^ most_inputs =
+    let h = c.args.header in
+    pow_mono {i = h.inputs} {j = most_inputs} (sized h.levels h.inputs (given_size _ _ _ c.requires.0)).inputs_most in
     let g = c.requires.0 in
     (record { size = given_size _ _ _ g; count = le_of_eq (sym (given_count _ _ _ g)); levels = given_below _ _ _ g }, room, c.requires.2)
 
 pub no_tree_place-requires : goal.no_tree_place-requires
 no_tree_place-requires c =
-    let room : 2 ^ c.args.header.inputs ≤ 2 ^ most_inputs = 
-        let h = c.args.header in
-        pow_mono {i = h.inputs} {j = most_inputs} (sized h.levels h.inputs (given_size _ _ _ c.requires.0)).inputs_most in
+    let room : 2 ^ c.args.header.inputs ≤ 2 ^ most_inputs =
+    let h = c.args.header in
+    pow_mono {i = h.inputs} {j = most_inputs} (sized h.levels h.inputs (given_size _ _ _ c.requires.0)).inputs_most in
     let own_room : 2 ^ c.args.header.inputs ≤ length c.mark_and_store-marked.new.marks = omega (arith, room, c.mark_and_store-marked.auto.marks) in
     let h = c.args.header in
     (omega (arith, (sized h.levels h.inputs (given_size _ _ _ c.requires.0)).inputs_most), own_room)
 
 pub returns-then-marked-ne2 : goal.returns-then-marked-ne2
 returns-then-marked-ne2 c =
-    let room : 2 ^ c.args.header.inputs ≤ 2 ^ most_inputs = 
-        let h = c.args.header in
-        pow_mono {i = h.inputs} {j = most_inputs} (sized h.levels h.inputs (given_size _ _ _ c.requires.0)).inputs_most in
+    let room : 2 ^ c.args.header.inputs ≤ 2 ^ most_inputs =
+    let h = c.args.header in
+    pow_mono {i = h.inputs} {j = most_inputs} (sized h.levels h.inputs (given_size _ _ _ c.requires.0)).inputs_most in
     let own_room : 2 ^ c.args.header.inputs ≤ length c.mark_and_store-marked.new.marks = omega (arith, room, c.mark_and_store-marked.auto.marks) in
     given_16 _ _ _ c.requires.0 _ _ _ _ c.mark_and_store-marked.ensures.0 own_room c.args.choice _ _ c.args.out.now
     (put_wrote c.requires.1 c.copy.ensures).text c.if-marked-ne2.true _ c.no_tree_place.ensures
@@ -40,9 +41,9 @@ leaves-leaves-requires c =
 
 pub made_net-net-requires : goal.made_net-net-requires
 made_net-net-requires c =
-    let room : 2 ^ c.args.header.inputs ≤ 2 ^ most_inputs = 
-        let h = c.args.header in
-        pow_mono {i = h.inputs} {j = most_inputs} (sized h.levels h.inputs (given_size _ _ _ c.requires.0)).inputs_most in
+    let room : 2 ^ c.args.header.inputs ≤ 2 ^ most_inputs =
+    let h = c.args.header in
+    pow_mono {i = h.inputs} {j = most_inputs} (sized h.levels h.inputs (given_size _ _ _ c.requires.0)).inputs_most in
     let own_room : 2 ^ c.args.header.inputs ≤ length c.mark_and_store-marked.new.marks = omega (arith, room, c.mark_and_store-marked.auto.marks) in
     let did = c.mark_and_store-marked in
     let g = c.requires.0 in (

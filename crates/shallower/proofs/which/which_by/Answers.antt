@@ -1,5 +1,6 @@
 -- `shallower::which::which_by` meets its contract, in each arm. Assumes nothing.
-use Rattle.laws.specs.Prelude.{◌≡◌, ◌∙◌, sym, ap₂}
+use Rattle.std.specs.Prelude.{◌≡◌}
+use Rattle.laws.specs.Prelude.{◌∙◌, sym, ap₂}
 use Rattle.rules.specs.Calls.Shallower as rules
 use Rattle.rules.specs.Calls.Shallower.{which_by}
 use Rattle.laws.specs.Calls.Shallower.{hands_second_shallower, first_kept, hands_first_readable, hands_second_readable, hands_none}

@@ -1,7 +1,8 @@
 -- `table_printer::lengths::decimal_length` meets its contract. The loop's invariant: the digits counted plus those of `rest` are one more
 -- than those of k, since the last digit of `rest` is in both.
 -- Assumes nothing.
-use Rattle.laws.specs.Prelude.{ℕ, ◌≤◌, ◌+◌, ◌%◌, ◌/◌, ◌≡◌, ◌∙◌, ap, [], ◌∷◌, arith, length, length-append}
+use Rattle.std.specs.Prelude.{◌≤◌, ◌+◌, ◌%◌, ◌/◌, ◌≡◌, ◌∷◌}
+use Rattle.laws.specs.Prelude.{ℕ, ◌∙◌, ap, [], arith, length, length-append}
 use Rattle.rules.specs.Text.{digit_byte, decimal}
 use Rattle.laws.specs.Numbers.Decimals.{decimal_one, decimal_more, decimal_length}
 use Rattle.table_printer.specs.Lengths.{most_decimal}

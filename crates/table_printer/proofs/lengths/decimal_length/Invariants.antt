@@ -1,7 +1,8 @@
 -- `table_printer::lengths::decimal_length` meets its contract. The loop's invariant: the digits counted plus those of `rest` are one more
 -- than those of k, since the last digit of `rest` is in both.
 -- Assumes nothing.
-use Rattle.laws.specs.Prelude.{◌+◌, ◌≡◌, length}
+use Rattle.std.specs.Prelude.{◌+◌, ◌≡◌}
+use Rattle.laws.specs.Prelude.{length}
 use Rattle.rules.specs.Text.{decimal}
 use Rattle.table_printer.proofs.lengths.decimal_length.Given as goal
 

@@ -1,6 +1,6 @@
 -- `table_printer::lengths::names_length` meets its contract. The loop's invariant: `total` is the length of the first i names.
 -- Assumes nothing.
-use Rattle.laws.specs.Prelude.{◌≤◌, ◌-◌, ◌*◌, ◌≡◌}
+use Rattle.std.specs.Prelude.{◌≤◌, ◌-◌, ◌*◌, ◌≡◌}
 use Rattle.table_printer.specs.Lengths.{lens_total}
 use Rattle.table_printer.proofs.lengths.names_length.Given as goal
 

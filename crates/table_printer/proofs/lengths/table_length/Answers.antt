@@ -1,6 +1,7 @@
 -- `table_printer::lengths::table_length` meets its contract.
 -- Assumes nothing.
-use Rattle.laws.specs.Prelude.{ℕ, ◌≤◌, ◌+◌, ◌*◌, ap, mul-le-mul, arith}
+use Rattle.std.specs.Prelude.{◌≤◌, ◌+◌, ◌*◌}
+use Rattle.laws.specs.Prelude.{ℕ, ap, mul-le-mul, arith}
 use Rattle.table_printer.specs.Lengths.{names_total, printed_table_length}
 use Rattle.table_printer.proofs.lengths.table_length.Goals as goal
 

@@ -1,6 +1,7 @@
 -- `table_printer::rows::put_word` meets its contract: eight stores.
 -- Assumes nothing.
-use Rattle.laws.specs.Prelude.{◌%◌, ◌/◌, ◌∙◌, ap, arith, length-set, sets}
+use Rattle.std.specs.Prelude.{◌%◌, ◌/◌}
+use Rattle.laws.specs.Prelude.{◌∙◌, ap, arith, length-set, sets}
 use Rattle.table_printer.specs.Rows.Words.{bytes_set, word_bytes_lem}
 use Rattle.table_printer.proofs.rows.put_word.Goals as goal
 

@@ -1,6 +1,7 @@
 -- `table_printer::table::ink_byte` meets its contract: the two cases of the byte.
 -- Assumes nothing.
-use Rattle.laws.specs.Prelude.{ℕ, ◌+◌, ◌≡◌, sym, arith}
+use Rattle.std.specs.Prelude.{◌+◌, ◌≡◌}
+use Rattle.laws.specs.Prelude.{ℕ, sym, arith}
 use Rattle.rules.specs.Text.{digit_byte}
 use Rattle.rules.specs.Sheets.Sheets.{ink_byte}
 use Rattle.laws.specs.Nets.Inks.{open_byte_lem, level_byte}

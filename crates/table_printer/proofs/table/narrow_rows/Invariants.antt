@@ -1,7 +1,8 @@
 -- `table_printer::table::narrow_rows` meets its contract. The loop's invariant: `levels` begins with the levels of index k, and the rows
 -- from k on are left to write at p.
 -- Assumes nothing.
-use Rattle.laws.specs.Prelude.{◌-◌, ◌≡◌, length, take, drop}
+use Rattle.std.specs.Prelude.{◌-◌, ◌≡◌}
+use Rattle.laws.specs.Prelude.{length, take, drop}
 use Rattle.rules.specs.Limits.{most_inputs}
 use Rattle.rules.specs.Sheets.Sheets.{levels_at}
 use Rattle.rules.specs.Sheets.Printed.{printed_rows}

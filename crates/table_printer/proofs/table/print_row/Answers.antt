@@ -1,6 +1,7 @@
 -- `table_printer::table::print_row` meets its contract. The loop's invariant: the row from level i on is left to write at p.
 -- Assumes nothing.
-use Rattle.laws.specs.Prelude.{◌+◌, [], ◌∷◌, arith, get_or, length-set}
+use Rattle.std.specs.Prelude.{◌+◌, ◌∷◌}
+use Rattle.laws.specs.Prelude.{[], arith, get_or, length-set}
 use Rattle.rules.specs.Text.{space, newline, digit_byte, zero_byte, space_byte, newline_byte}
 use Rattle.net_sheets.specs.Text.Put.{NetLeft, parts_left, bytes_left, none_left}
 use Rattle.table_printer.specs.Rows.Rows.{row_text, row_from_input, row_all, printed_row_next, row_end}

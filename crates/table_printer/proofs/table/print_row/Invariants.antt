@@ -1,6 +1,7 @@
 -- `table_printer::table::print_row` meets its contract. The loop's invariant: the row from level i on is left to write at p.
 -- Assumes nothing.
-use Rattle.laws.specs.Prelude.{◌≤◌, ◌-◌, length}
+use Rattle.std.specs.Prelude.{◌≤◌, ◌-◌}
+use Rattle.laws.specs.Prelude.{length}
 use Rattle.net_sheets.specs.Text.Put.{NetLeft}
 use Rattle.table_printer.specs.Rows.Rows.{row_text, row_from_input}
 use Rattle.table_printer.proofs.table.print_row.Given as goal

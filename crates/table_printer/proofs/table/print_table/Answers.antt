@@ -1,6 +1,7 @@
 -- `table_printer::table::print_table` meets its contract: after each call, what is left to write.
 -- Assumes nothing.
-use Rattle.laws.specs.Prelude.{ℕ, List, [], ◌∷◌, ◌++◌, arith}
+use Rattle.std.specs.Prelude.{◌∷◌, ◌++◌}
+use Rattle.laws.specs.Prelude.{ℕ, List, [], arith}
 use Rattle.rules.specs.Text.{space, newline, text, decimal}
 use Rattle.rules.specs.Sheets.Printed.{line, printed_rows, printed_table}
 use Rattle.nets.specs.Forms.{name_in, table_in}

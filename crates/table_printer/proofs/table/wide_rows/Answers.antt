@@ -1,7 +1,8 @@
 -- `table_printer::table::wide_rows` meets its contract. The loop's invariant: `words` and `levels` spell the levels of index k, and the rows
 -- from k on are left to write at p.
 -- Assumes nothing.
-use Rattle.laws.specs.Prelude.{ℕ, ◌<◌, ◌≤◌, ◌+◌, ◌*◌, ◌≡◌, ◌∙◌, sym, ap, refl, List, ◌++◌, add-one, arith, length, get_or, drop}
+use Rattle.std.specs.Prelude.{◌<◌, ◌≤◌, ◌+◌, ◌*◌, ◌≡◌, ◌++◌}
+use Rattle.laws.specs.Prelude.{ℕ, ◌∙◌, sym, ap, refl, List, add-one, arith, length, get_or, drop}
 use Rattle.rules.specs.Sheets.Sheets.{levels_at, ink_byte}
 use Rattle.rules.specs.Sheets.Printed.{printed_rows}
 use Rattle.laws.specs.Numbers.Levels.{levels_next, levels_length}

@@ -1,6 +1,6 @@
 -- `table_reader::row::row` meets its contract. The loop's invariant: the levels from here are the levels from the start.
 -- Assumes nothing.
-use Rattle.laws.specs.Prelude.{◌-◌}
+use Rattle.std.specs.Prelude.{◌-◌}
 use Rattle.table_reader.specs.Row.{InRow}
 use Rattle.table_reader.proofs.row.row.Given as goal
 

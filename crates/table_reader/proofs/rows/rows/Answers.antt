@@ -1,6 +1,7 @@
 -- `table_reader::rows::rows` meets its contract. The loop's invariant: the rows from here are the rows from the start, and `levels` begins with
 -- the levels of index p. Assumes nothing.
-use Rattle.laws.specs.Prelude.{◌<◌, ◌≤◌, ◌-◌, ◌^◌, ◌≡◌, ◌∙◌, sym, refl, arith, length, length-set}
+use Rattle.std.specs.Prelude.{◌<◌, ◌≤◌, ◌-◌, ◌^◌, ◌≡◌}
+use Rattle.laws.specs.Prelude.{◌∙◌, sym, refl, arith, length, length-set}
 use Rattle.rules.specs.Limits.{most_inputs}
 use Rattle.laws.specs.Numbers.Levels.{zeros_front, front_next}
 use Rattle.laws.specs.Numbers.Sizes.{Size, sized}

@@ -1,14 +1,15 @@
 -- `tree_counts::counts::group_count` and `split_count`, which call each other, meet their contracts. The measure is twice the number of members, and
 -- one less for a split: "the number of members, with a split position, falls". The loop's invariant: the recorded counts are right, and the sum is
 -- that of the splits passed. Assumes nothing.
-use Rattle.laws.specs.Prelude.{ℕ, ◌<◌, ◌+◌, ◌-◌, ◌^◌, ◌≡◌, ◌∙◌, sym, refl, ◌≢◌, ⊎_elim, List, arith, length, eqb-true, eqb-false, ◌*◌, ap₂}
+use Rattle.std.specs.Prelude.{◌<◌, ◌+◌, ◌-◌, ◌^◌, ◌≡◌, ◌≢◌, ◌*◌}
+use Rattle.laws.specs.Prelude.{ℕ, ◌∙◌, sym, refl, ⊎_elim, List, arith, length, eqb-true, eqb-false, ap₂}
 use Rattle.rules.specs.Limits.{most_inputs}
 use Rattle.rules.specs.Groups.Groups.{size}
 use Rattle.rules.specs.Groups.Marks.{mark_in}
 use Rattle.rules.specs.Nets.Wirings.{first_input}
 use Rattle.trees.specs.Groups.Members.{size_pos}
 use Rattle.trees.specs.Families.FamilyCounts.{group_trees, split_counted, no_parts_count, count_single}
-use Rattle.trees.specs.Families.FamilyBounds.{group_trees_fit}
+use Rattle.trees.proofs.Families.FamilyBounds.{group_trees_fit}
 use Rattle.radix.specs.Parts.{PartOf, Next}
 use Rattle.radix.specs.Widths.{groups_end}
 use Rattle.tree_counts.specs.Counts.{Countable, Splittable, one_kept, product_fits, product_split, splittable_sizes, smaller, split_none, split_fits}

@@ -1,7 +1,8 @@
 -- `tree_counts::counts::group_count` and `split_count`, which call each other, meet their contracts. The measure is twice the number of members, and
 -- one less for a split: "the number of members, with a split position, falls". The loop's invariant: the recorded counts are right, and the sum is
 -- that of the splits passed. Assumes nothing.
-use Rattle.laws.specs.Prelude.{◌+◌, ◌-◌, ◌≡◌, length}
+use Rattle.std.specs.Prelude.{◌+◌, ◌-◌, ◌≡◌}
+use Rattle.laws.specs.Prelude.{length}
 use Rattle.tree_counts.specs.Counts.{CountsKnown}
 use Rattle.tree_counts.specs.Walking.{Passed, Summed}
 use Rattle.rules.specs.Limits.{most_inputs}

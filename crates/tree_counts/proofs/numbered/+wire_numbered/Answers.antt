@@ -1,5 +1,6 @@
 -- `tree_counts::numbered::wire_numbered` meets its contract. The measure is the group's number: both parts of a split are below it. Assumes nothing.
-use Rattle.laws.specs.Prelude.{ℕ, ◌<◌, ◌≤◌, ◌+◌, ◌-◌, ◌≡◌, ◌∙◌, sym, subst, ◌≢◌, List, arith, length, eqb-true, eqb-false}
+use Rattle.std.specs.Prelude.{◌<◌, ◌≤◌, ◌+◌, ◌-◌, ◌≡◌, ◌≢◌}
+use Rattle.laws.specs.Prelude.{ℕ, ◌∙◌, sym, subst, List, arith, length, eqb-true, eqb-false}
 use Rattle.rules.specs.Groups.Groups.{size}
 use Rattle.rules.specs.Nets.Wirings.{first_input}
 use Rattle.trees.specs.Groups.Members.{size_one}

@@ -1,6 +1,7 @@
 -- `tree_counts::numbered::numbered_split` meets its contract. The loop's invariant: the recorded counts are right, and among the remaining splits the
 -- rest of the number falls where the number falls among all. Assumes nothing.
-use Rattle.laws.specs.Prelude.{ℕ, ◌<◌, ◌+◌, ◌-◌, ◌^◌, ◌≡◌, ◌∙◌, refl, List, arith}
+use Rattle.std.specs.Prelude.{◌<◌, ◌+◌, ◌-◌, ◌^◌, ◌≡◌}
+use Rattle.laws.specs.Prelude.{ℕ, ◌∙◌, refl, List, arith}
 use Rattle.rules.specs.Limits.{most_inputs}
 use Rattle.rules.specs.Nets.Wirings.{first_input}
 use Rattle.tree_counts.specs.Counts.{Countable, Splittable}

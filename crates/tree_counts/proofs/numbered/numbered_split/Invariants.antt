@@ -1,6 +1,7 @@
 -- `tree_counts::numbered::numbered_split` meets its contract. The loop's invariant: the recorded counts are right, and among the remaining splits the
 -- rest of the number falls where the number falls among all. Assumes nothing.
-use Rattle.laws.specs.Prelude.{◌-◌, ◌≡◌, length}
+use Rattle.std.specs.Prelude.{◌-◌, ◌≡◌}
+use Rattle.laws.specs.Prelude.{length}
 use Rattle.tree_counts.specs.Counts.{CountsKnown}
 use Rattle.tree_counts.specs.Walking.{Passed, SplitsLeft}
 use Rattle.tree_counts.proofs.numbered.numbered_split.Given as goal

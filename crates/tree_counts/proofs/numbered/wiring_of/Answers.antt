@@ -1,5 +1,6 @@
 -- `tree_counts::numbered::wiring_of` meets its contract: the leaf group's links, added to a wiring that has none. Assumes nothing.
-use Rattle.laws.specs.Prelude.{◌≡◌, ap, arith}
+use Rattle.std.specs.Prelude.{◌≡◌}
+use Rattle.laws.specs.Prelude.{ap, arith}
 use Rattle.trees.specs.Groups.Members.{size_le}
 use Rattle.wirings.specs.Links.{no_links}
 use Rattle.tree_counts.specs.Numbered.{wiring_found}

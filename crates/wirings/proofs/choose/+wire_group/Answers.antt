@@ -1,5 +1,6 @@
 -- `wirings::choose::wire_group` meets its contract. Assumes nothing.
-use Rattle.laws.specs.Prelude.{ℕ, ◌<◌, ◌≤◌, ◌+◌, ◌-◌, ◌^◌, ◌≡◌, ◌∙◌, sym, subst, ◌≢◌, List, lt_of_lt_of_le, arith, eqb-true, eqb-false, pow_mono}
+use Rattle.std.specs.Prelude.{◌<◌, ◌≤◌, ◌+◌, ◌-◌, ◌^◌, ◌≡◌, ◌≢◌}
+use Rattle.laws.specs.Prelude.{ℕ, ◌∙◌, sym, subst, List, lt_of_lt_of_le, arith, eqb-true, eqb-false, pow_mono}
 use Rattle.rules.specs.Groups.Groups.{size}
 use Rattle.rules.specs.Nets.Wirings.{first_input}
 use Rattle.trees.specs.Groups.Members.{size_one}

@@ -1,5 +1,6 @@
 -- `wirings::choose::choose` meets its contract: the leaf group's links, added to a wiring that has none. Assumes nothing.
-use Rattle.laws.specs.Prelude.{◌≡◌, ap, arith}
+use Rattle.std.specs.Prelude.{◌≡◌}
+use Rattle.laws.specs.Prelude.{ap, arith}
 use Rattle.trees.specs.Groups.Members.{size_le}
 use Rattle.wirings.specs.Links.{no_links}
 use Rattle.wirings.specs.Choice.{split_by}

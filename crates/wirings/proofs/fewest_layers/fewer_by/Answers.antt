@@ -1,5 +1,6 @@
 -- `wirings::fewest_layers::fewer_by` meets its contract: one test after the other. Assumes nothing.
-use Rattle.laws.specs.Prelude.{◌<◌, ◌∙◌, sym, refl, inl, inr, true≢false, arith}
+use Rattle.std.specs.Prelude.{◌<◌}
+use Rattle.laws.specs.Prelude.{◌∙◌, sym, refl, inl, inr, true≢false, arith}
 use Rattle.rules.specs.Nets.Shallow.{split_layers}
 use Rattle.wirings.proofs.fewest_layers.fewer_by.Goals as goal
 

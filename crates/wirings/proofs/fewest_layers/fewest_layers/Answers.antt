@@ -1,6 +1,7 @@
 -- `wirings::fewest_layers::fewest_layers` meets its contract. The loop's invariant: g is a part of the leaves, those below it are known, and have room
 -- for their members if `sized` says so. Assumes nothing.
-use Rattle.laws.specs.Prelude.{ℕ, ◌<◌, ◌≤◌, ◌+◌, ◌-◌, ◌^◌, ◌≡◌, ◌∙◌, sym, refl, subst, ⊎_elim, true≢false, List, arith, length, length-set, pow_mono}
+use Rattle.std.specs.Prelude.{◌<◌, ◌≤◌, ◌+◌, ◌-◌, ◌^◌, ◌≡◌}
+use Rattle.laws.specs.Prelude.{ℕ, ◌∙◌, sym, refl, subst, ⊎_elim, true≢false, List, arith, length, length-set, pow_mono}
 use lib.Bits.{and_zero_l}
 use Rattle.radix.specs.Parts.{PartOf}
 use Rattle.radix.specs.Widths.{most_members}

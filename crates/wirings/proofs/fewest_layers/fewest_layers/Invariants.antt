@@ -1,6 +1,7 @@
 -- `wirings::fewest_layers::fewest_layers` meets its contract. The loop's invariant: g is a part of the leaves, those below it are known, and have room
 -- for their members if `sized` says so. Assumes nothing.
-use Rattle.laws.specs.Prelude.{◌≤◌, ◌+◌, ◌-◌, ◌≡◌, true, length}
+use Rattle.std.specs.Prelude.{◌≤◌, ◌+◌, ◌-◌, ◌≡◌}
+use Rattle.laws.specs.Prelude.{true, length}
 use Rattle.radix.specs.Parts.{PartOf}
 use Rattle.wirings.specs.FewestLayers.{WiringKnown}
 use Rattle.wirings.specs.Fast.Floors.{RoomInLayers}

@@ -1,5 +1,6 @@
 -- `wirings::fewest_layers::fewest_of` meets its contract. The loop's invariant: `least` is the least over the parts passed. Assumes nothing.
-use Rattle.laws.specs.Prelude.{ℕ, ◌<◌, ◌+◌, ◌-◌, arith}
+use Rattle.std.specs.Prelude.{◌<◌, ◌+◌, ◌-◌}
+use Rattle.laws.specs.Prelude.{ℕ, arith}
 use Rattle.radix.specs.Widths.{most_members}
 use Rattle.marks.specs.FirstParts.{part_at}
 use Rattle.wirings.proofs.Scanning.{reached, scanned_none, scanned_next, scanned_floor, scanned_all}

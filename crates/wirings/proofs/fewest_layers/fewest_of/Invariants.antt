@@ -1,5 +1,5 @@
 -- `wirings::fewest_layers::fewest_of` meets its contract. The loop's invariant: `least` is the least over the parts passed. Assumes nothing.
-use Rattle.laws.specs.Prelude.{◌-◌}
+use Rattle.std.specs.Prelude.{◌-◌}
 use Rattle.wirings.proofs.Scanning.{Scanned}
 use Rattle.wirings.proofs.fewest_layers.fewest_of.Given as goal
 

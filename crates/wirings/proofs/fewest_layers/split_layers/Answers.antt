@@ -1,5 +1,6 @@
 -- `wirings::fewest_layers::split_layers` meets its contract: one more than the deeper of the two. Assumes nothing.
-use Rattle.laws.specs.Prelude.{◌<◌, ◌-◌, arith, get_or}
+use Rattle.std.specs.Prelude.{◌<◌, ◌-◌}
+use Rattle.laws.specs.Prelude.{arith, get_or}
 use Rattle.rules.specs.Nets.Shallow.{split_layers}
 use Rattle.wirings.proofs.fewest_layers.split_layers.Goals as goal
 

@@ -1,5 +1,6 @@
 -- `wirings::forms::link` meets its contract: one more gate is added. Assumes nothing.
-use Rattle.laws.specs.Prelude.{◌-◌, ◌≡◌, arith, length, rules}
+use Rattle.std.specs.Prelude.{◌-◌, ◌≡◌}
+use Rattle.laws.specs.Prelude.{arith, length, rules}
 use Rattle.rules.specs.Limits.{most_inputs}
 use Rattle.wirings.specs.Links.{linked}
 use Rattle.wirings.proofs.forms.link.Goals as goal

@@ -1,6 +1,7 @@
 -- `wirings::shallow_split::shallow_split` meets its contract. The loop's invariant: the search from the current part on gives the same result.
 -- Assumes nothing.
-use Rattle.laws.specs.Prelude.{◌<◌, ◌+◌, ◌-◌, ◌∙◌, sym, arith}
+use Rattle.std.specs.Prelude.{◌<◌, ◌+◌, ◌-◌}
+use Rattle.laws.specs.Prelude.{◌∙◌, sym, arith}
 use Rattle.rules.specs.Nets.Shallow.{shallow_split}
 use Rattle.radix.specs.Widths.{most_members}
 use Rattle.marks.specs.Searching.{sought_none, sought_all, part_looked_at, sought_found, sought_next}

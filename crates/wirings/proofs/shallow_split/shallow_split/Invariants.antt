@@ -1,6 +1,6 @@
 -- `wirings::shallow_split::shallow_split` meets its contract. The loop's invariant: the search from the current part on gives the same result.
 -- Assumes nothing.
-use Rattle.laws.specs.Prelude.{◌-◌}
+use Rattle.std.specs.Prelude.{◌-◌}
 use Rattle.marks.specs.Searching.{Sought}
 use Rattle.wirings.proofs.ShallowKeeping.{shallow_test}
 use Rattle.wirings.proofs.shallow_split.shallow_split.Given as goal

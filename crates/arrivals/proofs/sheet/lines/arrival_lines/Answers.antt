@@ -1,6 +1,7 @@
 -- `arrivals::sheet::lines::arrival_lines` meets its contract. The loop's invariant: the lines from here are the lines from the start.
 -- Assumes nothing.
-use Rattle.laws.specs.Prelude.{◌<◌, ◌≤◌, ◌≡◌, ◌∙◌, sym, [], arith, length, get_or}
+use Rattle.std.specs.Prelude.{◌<◌, ◌≤◌, ◌≡◌}
+use Rattle.laws.specs.Prelude.{◌∙◌, sym, [], arith, length, get_or}
 use Rattle.rules.specs.Limits.{most_inputs, most_time}
 use Rattle.nets.specs.Forms.{names_in, names_count}
 use Rattle.laws.specs.Numbers.Sizes.{sized}

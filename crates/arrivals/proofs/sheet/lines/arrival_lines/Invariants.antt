@@ -1,6 +1,6 @@
 -- `arrivals::sheet::lines::arrival_lines` meets its contract. The loop's invariant: the lines from here are the lines from the start.
 -- Assumes nothing.
-use Rattle.laws.specs.Prelude.{◌-◌}
+use Rattle.std.specs.Prelude.{◌-◌}
 use Rattle.nets.specs.Forms.{names_in}
 use Rattle.arrivals.specs.Sheet.Lines.{ArrivalReading}
 use Rattle.arrivals.proofs.sheet.lines.arrival_lines.Given as goal

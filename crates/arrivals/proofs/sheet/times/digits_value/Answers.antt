@@ -1,6 +1,7 @@
 -- `arrivals::sheet::times::digits_value` meets its contract. The loop's invariant: the digits so far write `value`.
 -- Assumes nothing.
-use Rattle.laws.specs.Prelude.{◌≤◌, arith}
+use Rattle.std.specs.Prelude.{◌≤◌}
+use Rattle.laws.specs.Prelude.{arith}
 use Rattle.arrivals.specs.Sheet.Times.{count_start, count_room, count_end, count_stop, count_next, below_digits, above_digits}
 use Rattle.arrivals.proofs.sheet.times.digits_value.Goals as goal
 

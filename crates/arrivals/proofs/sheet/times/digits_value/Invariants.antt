@@ -1,6 +1,7 @@
 -- `arrivals::sheet::times::digits_value` meets its contract. The loop's invariant: the digits so far write `value`.
 -- Assumes nothing.
-use Rattle.laws.specs.Prelude.{◌-◌, length}
+use Rattle.std.specs.Prelude.{◌-◌}
+use Rattle.laws.specs.Prelude.{length}
 use Rattle.arrivals.specs.Sheet.Times.{ArrivalCounted}
 use Rattle.arrivals.proofs.sheet.times.digits_value.Given as goal
 

@@ -1,5 +1,6 @@
 -- `capi::numbers::timing::flat_timing` meets its contract, in each arm. Assumes nothing.
-use Rattle.laws.specs.Prelude.{◌≡◌, ◌∙◌, sym, ap, needs}
+use Rattle.std.specs.Prelude.{◌≡◌}
+use Rattle.laws.specs.Prelude.{◌∙◌, sym, ap, needs}
 use Rattle.arrivals.specs.declared.call.Timing.{Timing}
 use Rattle.arrivals.specs.ArrivalAnswers.{timing_as}
 use Rattle.capi.specs.Numbers.Timing.{flat_timing}

@@ -1,5 +1,6 @@
 -- `classes::fast::fold::fold_thrice` meets its contract: each fold halves the columns. Assumes nothing.
-use Rattle.laws.specs.Prelude.{ℕ, ◌≤◌, ◌/◌, ◌≡◌, subst₂, List, arith, length, take, take-length}
+use Rattle.std.specs.Prelude.{◌≤◌, ◌/◌, ◌≡◌}
+use Rattle.laws.specs.Prelude.{ℕ, subst₂, List, arith, length, take, take-length}
 use Rattle.rules.specs.Calls.Answers.{ink_in}
 use Rattle.classes.specs.Fast.Folds.{Folds, folds_both}
 use Rattle.classes.specs.Fast.Halves.{half_nested, half_folds}

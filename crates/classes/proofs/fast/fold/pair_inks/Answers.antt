@@ -1,5 +1,6 @@
 -- `classes::fast::fold::pair_inks` meets its contract. The loop's invariant: the first p numbers are written. Assumes nothing.
-use Rattle.laws.specs.Prelude.{ℕ, ◌<◌, ◌≤◌, ◌+◌, ◌-◌, ◌*◌, ◌∙◌, refl, arith, length, length-set, get_or-set_same, digits_lt, mul-le-mul}
+use Rattle.std.specs.Prelude.{◌<◌, ◌≤◌, ◌+◌, ◌-◌, ◌*◌}
+use Rattle.laws.specs.Prelude.{ℕ, ◌∙◌, refl, arith, length, length-set, get_or-set_same, digits_lt, mul-le-mul}
 use borrow.Author.Count.{below_more}
 use borrow.Author.Rules.{read_below}
 use Rattle.rules.specs.Calls.Answers.{ink_in}

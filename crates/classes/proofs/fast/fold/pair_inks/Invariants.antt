@@ -1,5 +1,6 @@
 -- `classes::fast::fold::pair_inks` meets its contract. The loop's invariant: the first p numbers are written. Assumes nothing.
-use Rattle.laws.specs.Prelude.{ℕ, ◌<◌, ◌≤◌, ◌+◌, ◌-◌, ◌*◌, ◌≡◌, length, get_or}
+use Rattle.std.specs.Prelude.{◌<◌, ◌≤◌, ◌+◌, ◌-◌, ◌*◌, ◌≡◌}
+use Rattle.laws.specs.Prelude.{ℕ, length, get_or}
 use Rattle.rules.specs.Calls.Answers.{ink_in}
 use Rattle.classes.proofs.fast.fold.pair_inks.Given as goal
 

@@ -1,5 +1,6 @@
 -- `classes::fast::folded::folded_firsts` meets its contract: the folded cells give the same classes. Assumes nothing.
-use Rattle.laws.specs.Prelude.{ℕ, ◌-◌, ◌/◌, subst, List, sub-zero, arith, length, take, length-take, lt_of_lt_of_le}
+use Rattle.std.specs.Prelude.{◌-◌, ◌/◌}
+use Rattle.laws.specs.Prelude.{ℕ, subst, List, sub-zero, arith, length, take, length-take, lt_of_lt_of_le}
 use Rattle.rules.specs.Calls.Answers.{ink_in}
 use Rattle.radix.specs.Fronts.{Front}
 use Rattle.classes.specs.Fast.Folds.{Folds, folds_classes}

@@ -1,5 +1,5 @@
 -- `evaluation::fast::by_table::look_up` meets its contract. The loop's invariant: the first p cells are there. Assumes nothing.
-use Rattle.laws.specs.Prelude.{◌≤◌, ◌-◌}
+use Rattle.std.specs.Prelude.{◌≤◌, ◌-◌}
 use Rattle.evaluation.specs.Lists.Runs.{Run}
 use Rattle.evaluation.specs.Fast.ByTable.{index_cell}
 use Rattle.evaluation.proofs.fast.by_table.look_up.Given as goal

@@ -1,5 +1,6 @@
 -- `evaluation::fast::by_table::step_indices` meets its contract. The loop's invariant: the first p indices have the input. Assumes nothing.
-use Rattle.laws.specs.Prelude.{◌<◌, ◌*◌, ◌+◌, ◌≡◌, ap, zero-add, arith, get_or}
+use Rattle.std.specs.Prelude.{◌<◌, ◌*◌, ◌+◌, ◌≡◌}
+use Rattle.laws.specs.Prelude.{ap, zero-add, arith, get_or}
 use Rattle.evaluation.specs.Lists.Runs.{run_none, column_run_more, run_all}
 use Rattle.evaluation.specs.Fast.ByTable.{index_step}
 use Rattle.evaluation.proofs.fast.by_table.step_indices.Goals as goal

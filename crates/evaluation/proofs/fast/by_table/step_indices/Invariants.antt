@@ -1,5 +1,5 @@
 -- `evaluation::fast::by_table::step_indices` meets its contract. The loop's invariant: the first p indices have the input. Assumes nothing.
-use Rattle.laws.specs.Prelude.{◌≤◌, ◌-◌}
+use Rattle.std.specs.Prelude.{◌≤◌, ◌-◌}
 use Rattle.evaluation.specs.Lists.Runs.{Run}
 use Rattle.evaluation.specs.Fast.ByTable.{index_step}
 use Rattle.evaluation.proofs.fast.by_table.step_indices.Given as goal

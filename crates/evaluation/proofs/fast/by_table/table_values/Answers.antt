@@ -1,5 +1,6 @@
 -- `evaluation::fast::by_table::table_values` meets its contract. The loop's invariant: the first i inputs are in the indices. Assumes nothing.
-use Rattle.laws.specs.Prelude.{ℕ, ◌<◌, ◌≡◌, ◌∙◌, arith, length-replicate, get_or-replicate, rules}
+use Rattle.std.specs.Prelude.{◌<◌, ◌≡◌}
+use Rattle.laws.specs.Prelude.{ℕ, ◌∙◌, arith, length-replicate, get_or-replicate, rules}
 use Rattle.rules.specs.Lists.{range}
 use Rattle.laws.specs.Numbers.Assignments.{index_from, index_of}
 use Rattle.nets.specs.Sound.{sound_size}

@@ -1,5 +1,6 @@
 -- `evaluation::fast::by_table::table_values` meets its contract. The loop's invariant: the first i inputs are in the indices. Assumes nothing.
-use Rattle.laws.specs.Prelude.{◌≤◌, ◌-◌, ◌≡◌, length}
+use Rattle.std.specs.Prelude.{◌≤◌, ◌-◌, ◌≡◌}
+use Rattle.laws.specs.Prelude.{length}
 use Rattle.evaluation.specs.Fast.ByTable.{most_indices, Indexed}
 use Rattle.evaluation.proofs.fast.by_table.table_values.Given as goal
 

@@ -1,5 +1,6 @@
 -- `evaluation::fast::two_levels::two_level_digit` meets its contract, by the four pairs of levels. Assumes nothing.
-use Rattle.laws.specs.Prelude.{◌+◌, ◌*◌, ◌≡◌, arith}
+use Rattle.std.specs.Prelude.{◌+◌, ◌*◌, ◌≡◌}
+use Rattle.laws.specs.Prelude.{arith}
 use Rattle.evaluation.proofs.fast.two_levels.two_level_digit.Goals as goal
 
 pub returns-then-r-eq0 : goal.returns-then-r-eq0

@@ -1,5 +1,6 @@
 -- `evaluation::fast::two_levels::two_level_values` meets its contract. The loop's invariant: the gate has its first p values. Assumes nothing.
-use Rattle.laws.specs.Prelude.{◌<◌, ◌+◌, ◌∙◌, arith, get_or}
+use Rattle.std.specs.Prelude.{◌<◌, ◌+◌}
+use Rattle.laws.specs.Prelude.{◌∙◌, arith, get_or}
 use Rattle.evaluation.specs.Lists.Runs.{run_none, column_run_more, run_all}
 use Rattle.evaluation.specs.Gates.{digit_read, read_below}
 use Rattle.evaluation.specs.Fast.TwoLevels.{four_digits}

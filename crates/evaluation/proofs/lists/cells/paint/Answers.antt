@@ -1,5 +1,6 @@
 -- `evaluation::lists::cells::paint` meets its contract. The loop's invariant: the cells for the first i of the outer list are written. Assumes nothing.
-use Rattle.laws.specs.Prelude.{◌≤◌, ◌+◌, ◌*◌, ◌%◌, ◌≡◌, arith, get_or}
+use Rattle.std.specs.Prelude.{◌≤◌, ◌+◌, ◌*◌, ◌%◌, ◌≡◌}
+use Rattle.laws.specs.Prelude.{arith, get_or}
 use Rattle.evaluation.specs.Lists.Pairs.{level_distance}
 use Rattle.evaluation.specs.Lists.Painted.{painted_none, painted_more}
 use Rattle.evaluation.proofs.lists.cells.paint.Goals as goal

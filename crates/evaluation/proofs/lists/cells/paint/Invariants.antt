@@ -1,5 +1,5 @@
 -- `evaluation::lists::cells::paint` meets its contract. The loop's invariant: the cells for the first i of the outer list are written. Assumes nothing.
-use Rattle.laws.specs.Prelude.{◌≤◌, ◌-◌}
+use Rattle.std.specs.Prelude.{◌≤◌, ◌-◌}
 use Rattle.evaluation.specs.Lists.Painted.{AllPainted}
 use Rattle.evaluation.proofs.lists.cells.paint.Given as goal
 

@@ -1,5 +1,6 @@
 -- `evaluation::lists::cells::paint_copies` meets its contract. The loop's invariant: the table for the first h offsets is written. Assumes nothing.
-use Rattle.laws.specs.Prelude.{ℕ, ◌<◌, ◌≡◌, List, arith, get_or}
+use Rattle.std.specs.Prelude.{◌<◌, ◌≡◌}
+use Rattle.laws.specs.Prelude.{ℕ, List, arith, get_or}
 use Rattle.radix.specs.Fronts.{fits_in}
 use Rattle.nets.specs.Sound.{sound_size, net_levels_pos}
 use Rattle.evaluation.specs.Lists.Painted.{painted_none, painted_more}

@@ -1,5 +1,5 @@
 -- `evaluation::lists::cells::paint_copies` meets its contract. The loop's invariant: the table for the first h offsets is written. Assumes nothing.
-use Rattle.laws.specs.Prelude.{◌≤◌, ◌-◌}
+use Rattle.std.specs.Prelude.{◌≤◌, ◌-◌}
 use Rattle.evaluation.specs.Lists.Painted.{Painted, Parts}
 use Rattle.evaluation.specs.Lists.Cells.{CopyWrites}
 use Rattle.evaluation.proofs.lists.cells.paint_copies.Given as goal

@@ -1,5 +1,6 @@
 -- `evaluation::lists::cells::paint_row` meets its contract. The loop's invariant: the first j cells are written. Assumes nothing.
-use Rattle.laws.specs.Prelude.{◌<◌, ◌+◌, ◌≡◌, arith, length}
+use Rattle.std.specs.Prelude.{◌<◌, ◌+◌, ◌≡◌}
+use Rattle.laws.specs.Prelude.{arith, length}
 use Rattle.evaluation.specs.Lists.Painted.{row_cell, row_digit, painted_cell, painted_none, painted_more}
 use Rattle.evaluation.proofs.lists.cells.paint_row.Goals as goal
 

@@ -1,5 +1,5 @@
 -- `evaluation::lists::cells::paint_row` meets its contract. The loop's invariant: the first j cells are written. Assumes nothing.
-use Rattle.laws.specs.Prelude.{◌≤◌, ◌-◌}
+use Rattle.std.specs.Prelude.{◌≤◌, ◌-◌}
 use Rattle.evaluation.specs.Lists.Painted.{RowPainted}
 use Rattle.evaluation.proofs.lists.cells.paint_row.Given as goal
 

@@ -1,5 +1,6 @@
 -- `evaluation::lists::gates::lay_gates` meets its contract. The loop's invariant: the inputs and the first k gates have their lists. Assumes nothing.
-use Rattle.laws.specs.Prelude.{◌<◌, ◌≤◌, ◌+◌, ◌*◌, sym, ap, add-zero, mul-le-mul, arith, get_or}
+use Rattle.std.specs.Prelude.{◌<◌, ◌≤◌, ◌+◌, ◌*◌}
+use Rattle.laws.specs.Prelude.{sym, ap, add-zero, mul-le-mul, arith, get_or}
 use Rattle.nets.specs.declared.forms.Net.{Net}
 use Rattle.nets.specs.Room.{most_gates, most_wires}
 use Rattle.nets.specs.References.{gate_step}

@@ -1,5 +1,5 @@
 -- `evaluation::lists::gates::lay_gates` meets its contract. The loop's invariant: the inputs and the first k gates have their lists. Assumes nothing.
-use Rattle.laws.specs.Prelude.{◌<◌, ◌+◌, ◌-◌, ◌≡◌}
+use Rattle.std.specs.Prelude.{◌<◌, ◌+◌, ◌-◌, ◌≡◌}
 use Rattle.evaluation.specs.Lists.Wires.{wire_start}
 use Rattle.evaluation.specs.Lists.Laid.{WiresListed}
 use Rattle.evaluation.proofs.lists.gates.lay_gates.Given as goal

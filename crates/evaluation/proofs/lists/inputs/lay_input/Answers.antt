@@ -1,5 +1,6 @@
 -- `evaluation::lists::inputs::lay_input` meets its contract. The loop's invariant: the first l entries are written. Assumes nothing.
-use Rattle.laws.specs.Prelude.{◌<◌, refl, arith}
+use Rattle.std.specs.Prelude.{◌<◌}
+use Rattle.laws.specs.Prelude.{refl, arith}
 use Rattle.evaluation.specs.Lists.Runs.{run_none, column_run_more, run_all}
 use Rattle.evaluation.specs.Lists.Pairs.{entries_end}
 use Rattle.evaluation.specs.Lists.Laid.{input_entry}

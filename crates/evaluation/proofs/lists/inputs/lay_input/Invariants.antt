@@ -1,5 +1,5 @@
 -- `evaluation::lists::inputs::lay_input` meets its contract. The loop's invariant: the first l entries are written. Assumes nothing.
-use Rattle.laws.specs.Prelude.{◌≤◌, ◌-◌}
+use Rattle.std.specs.Prelude.{◌≤◌, ◌-◌}
 use Rattle.evaluation.specs.Lists.Runs.{Run}
 use Rattle.evaluation.specs.Lists.Laid.{input_entry}
 use Rattle.evaluation.proofs.lists.inputs.lay_input.Given as goal

@@ -1,5 +1,6 @@
 -- `evaluation::lists::inputs::lay_inputs` meets its contract. The loop's invariant: the first i inputs have their lists. Assumes nothing.
-use Rattle.laws.specs.Prelude.{ℕ, ◌<◌, ◌≤◌, ◌-◌, ◌^◌, ◌/◌, ◌≡◌, ◌∙◌, ap, refl, pow-suc, pow-le-pow_right, add-one, arith}
+use Rattle.std.specs.Prelude.{◌<◌, ◌≤◌, ◌-◌, ◌^◌, ◌/◌, ◌≡◌}
+use Rattle.laws.specs.Prelude.{ℕ, ◌∙◌, ap, refl, pow-suc, pow-le-pow_right, add-one, arith}
 use Rattle.rules.specs.Lists.{range, total}
 use Rattle.nets.specs.declared.forms.Net.{Net}
 use Rattle.nets.specs.Sound.{Sound, sound_size, net_levels_pos}

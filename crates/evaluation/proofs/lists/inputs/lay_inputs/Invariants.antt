@@ -1,5 +1,5 @@
 -- `evaluation::lists::inputs::lay_inputs` meets its contract. The loop's invariant: the first i inputs have their lists. Assumes nothing.
-use Rattle.laws.specs.Prelude.{◌≤◌, ◌-◌, ◌^◌, ◌≡◌}
+use Rattle.std.specs.Prelude.{◌≤◌, ◌-◌, ◌^◌, ◌≡◌}
 use Rattle.evaluation.specs.Lists.Wires.{wire_start}
 use Rattle.evaluation.specs.Lists.Laid.{WiresListed}
 use Rattle.evaluation.proofs.lists.inputs.lay_inputs.Given as goal

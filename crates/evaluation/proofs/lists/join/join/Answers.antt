@@ -1,5 +1,6 @@
 -- `evaluation::lists::join::join` meets its contract. The loop's invariant: the entries for the first i of the outer list are written. Assumes nothing.
-use Rattle.laws.specs.Prelude.{ℕ, ◌≤◌, ◌+◌, ◌*◌, ◌%◌, ◌≡◌, zero-mul, arith, length, get_or}
+use Rattle.std.specs.Prelude.{◌≤◌, ◌+◌, ◌*◌, ◌%◌, ◌≡◌}
+use Rattle.laws.specs.Prelude.{ℕ, zero-mul, arith, length, get_or}
 use Rattle.evaluation.specs.Lists.Pairs.{joined_none, join_row_room, row_ready, joined_more, pair_rows_more, level_distance}
 use Rattle.evaluation.proofs.lists.join.join.Goals as goal
 

@@ -1,5 +1,5 @@
 -- `evaluation::lists::join::join` meets its contract. The loop's invariant: the entries for the first i of the outer list are written. Assumes nothing.
-use Rattle.laws.specs.Prelude.{◌≤◌, ◌+◌, ◌-◌, ◌*◌, ◌≡◌}
+use Rattle.std.specs.Prelude.{◌≤◌, ◌+◌, ◌-◌, ◌*◌, ◌≡◌}
 use Rattle.evaluation.specs.Lists.Pairs.{PairsJoined}
 use Rattle.evaluation.proofs.lists.join.join.Given as goal
 

@@ -1,5 +1,6 @@
 -- `evaluation::lists::join::join_row` meets its contract. The loop's invariant: the first j entries are written. Assumes nothing.
-use Rattle.laws.specs.Prelude.{ℕ, ◌<◌, ◌+◌, ◌*◌, ◌%◌, ◌≡◌, ap, arith, length, get_or}
+use Rattle.std.specs.Prelude.{◌<◌, ◌+◌, ◌*◌, ◌%◌, ◌≡◌}
+use Rattle.laws.specs.Prelude.{ℕ, ap, arith, length, get_or}
 use Rattle.evaluation.specs.Lists.Runs.{run_none, column_run_more, run_all}
 use Rattle.evaluation.specs.Lists.Pairs.{joined_entry, entries_end, level_distance}
 use Rattle.evaluation.proofs.lists.join.join_row.Goals as goal

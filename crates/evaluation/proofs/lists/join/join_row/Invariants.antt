@@ -1,5 +1,5 @@
 -- `evaluation::lists::join::join_row` meets its contract. The loop's invariant: the first j entries are written. Assumes nothing.
-use Rattle.laws.specs.Prelude.{◌≤◌, ◌-◌}
+use Rattle.std.specs.Prelude.{◌≤◌, ◌-◌}
 use Rattle.evaluation.specs.Lists.Runs.{Run}
 use Rattle.evaluation.specs.Lists.Pairs.{row_entry}
 use Rattle.evaluation.proofs.lists.join.join_row.Given as goal

@@ -1,6 +1,7 @@
 -- `fields::header::keys::key_of` meets its contract. The loop's invariant: the key is that of the bytes from `i` on.
 -- Assumes nothing.
-use Rattle.laws.specs.Prelude.{◌<◌, ◌≤◌, ◌-◌, ◌≡◌, arith, length, drop, length-drop, drop_of_length-le}
+use Rattle.std.specs.Prelude.{◌<◌, ◌≤◌, ◌-◌, ◌≡◌}
+use Rattle.laws.specs.Prelude.{arith, length, drop, length-drop, drop_of_length-le}
 use Rattle.rules.specs.Limits.{most_name_bytes}
 use Rattle.fields.specs.Header.Keys.{no_key, key_room, key_more}
 use Rattle.fields.proofs.header.keys.key_of.Goals as goal

@@ -1,6 +1,7 @@
 -- `fields::header::keys::key_of` meets its contract. The loop's invariant: the key is that of the bytes from `i` on.
 -- Assumes nothing.
-use Rattle.laws.specs.Prelude.{◌≤◌, length, drop}
+use Rattle.std.specs.Prelude.{◌≤◌}
+use Rattle.laws.specs.Prelude.{length, drop}
 use Rattle.fields.specs.Header.Keys.{IsKey}
 use Rattle.fields.proofs.header.keys.key_of.Given as goal
 

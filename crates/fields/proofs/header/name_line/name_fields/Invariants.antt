@@ -1,6 +1,6 @@
 -- `fields::header::name_line::name_fields` meets its contract. The loop's invariant: the names from here are the names from the start.
 -- Assumes nothing.
-use Rattle.laws.specs.Prelude.{◌-◌}
+use Rattle.std.specs.Prelude.{◌-◌}
 use Rattle.fields.specs.Steps.{layout_of}
 use Rattle.fields.specs.Header.NameLine.{Reading}
 use Rattle.fields.proofs.header.name_line.name_fields.Given as goal

@@ -1,6 +1,7 @@
 -- `fields::header::names::are_name_bytes` meets its contract. The loop's invariant: all pass exactly when the rest does.
 -- Assumes nothing.
-use Rattle.laws.specs.Prelude.{◌-◌, ◌≡◌, length, drop}
+use Rattle.std.specs.Prelude.{◌-◌, ◌≡◌}
+use Rattle.laws.specs.Prelude.{length, drop}
 use Rattle.rules.specs.Lists.{all}
 use Rattle.fields.specs.Header.Names.{is_name_byte}
 use Rattle.fields.proofs.header.names.are_name_bytes.Given as goal

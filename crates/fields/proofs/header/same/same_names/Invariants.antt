@@ -1,6 +1,7 @@
 -- `fields::header::same::same_names` meets its contract. The loop's invariant: all names are the same exactly when those from `i` on are.
 -- Assumes nothing.
-use Rattle.laws.specs.Prelude.{◌-◌, ◌≡◌, map}
+use Rattle.std.specs.Prelude.{◌-◌, ◌≡◌}
+use Rattle.laws.specs.Prelude.{map}
 use Rattle.rules.specs.Lists.{range}
 use Rattle.rules.specs.Calls.Checking.{same_names_of}
 use Rattle.nets.specs.Forms.{name_in}

@@ -1,6 +1,7 @@
 -- `fields::header::values::inputs_of` meets its contract. The loop's invariant: the first match from `n` on is the first of all.
 -- Assumes nothing.
-use Rattle.laws.specs.Prelude.{◌+◌, ◌∙◌, sym, refl, arith}
+use Rattle.std.specs.Prelude.{◌+◌}
+use Rattle.laws.specs.Prelude.{◌∙◌, sym, refl, arith}
 use Rattle.rules.specs.Limits.{most_inputs}
 use Rattle.rules.specs.Sheets.Sheets.{inputs_of}
 use Rattle.laws.specs.Lists.Walks.{find_next, find_stop, find_end}

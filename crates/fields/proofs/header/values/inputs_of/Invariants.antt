@@ -1,6 +1,6 @@
 -- `fields::header::values::inputs_of` meets its contract. The loop's invariant: the first match from `n` on is the first of all.
 -- Assumes nothing.
-use Rattle.laws.specs.Prelude.{◌≤◌, ◌+◌, ◌-◌, ◌≡◌}
+use Rattle.std.specs.Prelude.{◌≤◌, ◌+◌, ◌-◌, ◌≡◌}
 use Rattle.rules.specs.Lists.{range, find, same}
 use Rattle.rules.specs.Limits.{most_inputs}
 use Rattle.rules.specs.Text.{decimal}

@@ -1,5 +1,6 @@
 -- `jobs::job::Job::finish` meets its contract: it finishes the job by its parts. Assumes nothing.
-use Rattle.laws.specs.Prelude.{◌≡◌, ◌∙◌, sym, refl, arith, length, length-map, needs}
+use Rattle.std.specs.Prelude.{◌≡◌}
+use Rattle.laws.specs.Prelude.{◌∙◌, sym, refl, arith, length, length-map, needs}
 use Rattle.rules.specs.Limits.{most_cells}
 use Rattle.jobs.proofs.job.Job.finish.Statement.{statement}
 use Rattle.jobs.proofs.job.Job.finish.Tie as tie

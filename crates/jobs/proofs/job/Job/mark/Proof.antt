@@ -1,5 +1,6 @@
 -- `jobs::job::Job::mark` meets its contract: it returns the answer of `mark_in` for its parts. Assumes nothing.
-use Rattle.laws.specs.Prelude.{◌≡◌, ◌∙◌, sym, refl, arith, length, length-map, needs}
+use Rattle.std.specs.Prelude.{◌≡◌}
+use Rattle.laws.specs.Prelude.{◌∙◌, sym, refl, arith, length, length-map, needs}
 use Rattle.jobs.specs.Forms.{most_groups}
 use Rattle.jobs.proofs.job.Job.mark.Statement.{statement}
 use Rattle.jobs.proofs.job.Job.mark.Tie as tie

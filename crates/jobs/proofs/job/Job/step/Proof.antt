@@ -1,5 +1,6 @@
 -- `jobs::job::Job::step` meets its contract: the job unchanged, or with the next group's mark. Assumes nothing.
-use Rattle.laws.specs.Prelude.{◌≡◌, ◌∙◌, sym, subst, arith, length, length-map, needs}
+use Rattle.std.specs.Prelude.{◌≡◌}
+use Rattle.laws.specs.Prelude.{◌∙◌, sym, subst, arith, length, length-map, needs}
 use Rattle.rules.specs.Limits.{most_cells}
 use Rattle.jobs.specs.Forms.{most_groups, job_in, job_of}
 use Rattle.jobs.specs.Stepping.{NextMark}

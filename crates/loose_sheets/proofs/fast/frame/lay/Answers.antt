@@ -1,6 +1,7 @@
 -- `loose_sheets::fast::frame::lay` meets its contract. The loop's invariant: j places are laid out, with i levels, and the others have no weight.
 -- Assumes nothing.
-use Rattle.laws.specs.Prelude.{◌<◌, ◌≤◌, ◌+◌, ◌-◌, ◌^◌, pow-le-pow_right, arith}
+use Rattle.std.specs.Prelude.{◌<◌, ◌≤◌, ◌+◌, ◌-◌, ◌^◌}
+use Rattle.laws.specs.Prelude.{pow-le-pow_right, arith}
 use Rattle.rules.specs.Limits.{most_cells}
 use Rattle.laws.specs.Numbers.Sizes.{Size, sized}
 use Rattle.loose_sheets.specs.Fast.Frame.{most_laid}

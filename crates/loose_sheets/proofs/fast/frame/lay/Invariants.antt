@@ -1,6 +1,6 @@
 -- `loose_sheets::fast::frame::lay` meets its contract. The loop's invariant: j places are laid out, with i levels, and the others have no weight.
 -- Assumes nothing.
-use Rattle.laws.specs.Prelude.{◌-◌}
+use Rattle.std.specs.Prelude.{◌-◌}
 use Rattle.loose_sheets.specs.Fast.Frame.{most_laid}
 use Rattle.loose_sheets.specs.Fast.Laying.{Laying}
 use Rattle.loose_sheets.proofs.fast.frame.lay.Given as goal

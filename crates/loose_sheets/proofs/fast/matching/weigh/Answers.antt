@@ -1,6 +1,7 @@
 -- `loose_sheets::fast::matching::weigh` meets its contract. The loop's invariant: k bytes fit unless `over`, and the sum is theirs.
 -- Assumes nothing.
-use Rattle.laws.specs.Prelude.{ℕ, ◌<◌, ◌≤◌, ◌+◌, ◌^◌, ◌*◌, ◌%◌, ◌≡◌, ◌∙◌, sym, refl, false≢true, arith, length, get_or, mul-le-mul}
+use Rattle.std.specs.Prelude.{◌<◌, ◌≤◌, ◌+◌, ◌^◌, ◌*◌, ◌%◌, ◌≡◌}
+use Rattle.laws.specs.Prelude.{ℕ, ◌∙◌, sym, refl, false≢true, arith, length, get_or, mul-le-mul}
 use Rattle.rules.specs.Limits.{most_cells}
 use Rattle.loose_sheets.specs.Fast.Matching.{fit_next, counted, counted_adds}
 use Rattle.loose_sheets.proofs.fast.matching.weigh.Goals as goal

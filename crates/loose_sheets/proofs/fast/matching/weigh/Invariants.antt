@@ -1,6 +1,7 @@
 -- `loose_sheets::fast::matching::weigh` meets its contract. The loop's invariant: k bytes fit unless `over`, and the sum is theirs.
 -- Assumes nothing.
-use Rattle.laws.specs.Prelude.{◌≤◌, ◌-◌, ◌^◌, ◌%◌, ◌≡◌, false}
+use Rattle.std.specs.Prelude.{◌≤◌, ◌-◌, ◌^◌, ◌%◌, ◌≡◌}
+use Rattle.laws.specs.Prelude.{false}
 use Rattle.loose_sheets.specs.Fast.Matching.{Fit, counted}
 use Rattle.loose_sheets.proofs.fast.matching.weigh.Given as goal
 

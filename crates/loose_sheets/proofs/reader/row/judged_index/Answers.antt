@@ -1,6 +1,7 @@
 -- `loose_sheets::reader::row::judged_index` meets its contract. The loop's invariant: the index from here is the index from the start.
 -- Assumes nothing.
-use Rattle.laws.specs.Prelude.{◌<◌, ◌+◌, ◌*◌, arith}
+use Rattle.std.specs.Prelude.{◌<◌, ◌+◌, ◌*◌}
+use Rattle.laws.specs.Prelude.{arith}
 use Rattle.rules.specs.Limits.{most_cells}
 use Rattle.laws.specs.Numbers.Sizes.{Size, sized}
 use Rattle.loose_sheets.specs.Reader.Index.{index_start, index_done, index_back, index_next, index_fits}

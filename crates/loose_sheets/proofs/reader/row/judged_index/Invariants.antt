@@ -1,6 +1,6 @@
 -- `loose_sheets::reader::row::judged_index` meets its contract. The loop's invariant: the index from here is the index from the start.
 -- Assumes nothing.
-use Rattle.laws.specs.Prelude.{◌-◌}
+use Rattle.std.specs.Prelude.{◌-◌}
 use Rattle.loose_sheets.specs.Reader.Index.{InIndex}
 use Rattle.loose_sheets.proofs.reader.row.judged_index.Given as goal
 

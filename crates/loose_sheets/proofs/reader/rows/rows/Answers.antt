@@ -1,6 +1,7 @@
 -- `loose_sheets::reader::rows::rows` meets its contract. The loop's invariant: k rows are read, and the rows from here are the rows from the start.
 -- Assumes nothing.
-use Rattle.laws.specs.Prelude.{ℕ, ◌<◌, ◌≤◌, ◌^◌, sym, refl, arith, length, length-set, length-replicate}
+use Rattle.std.specs.Prelude.{◌<◌, ◌≤◌, ◌^◌}
+use Rattle.laws.specs.Prelude.{ℕ, sym, refl, arith, length, length-set, length-replicate}
 use Rattle.rules.specs.Limits.{most_cells}
 use Rattle.laws.specs.Numbers.Sizes.{Size, sized}
 use Rattle.loose_sheets.specs.Fast.Frame.{frame_length}

@@ -1,6 +1,7 @@
 -- `loose_sheets::reader::rows::rows` meets its contract. The loop's invariant: k rows are read, and the rows from here are the rows from the start.
 -- Assumes nothing.
-use Rattle.laws.specs.Prelude.{◌-◌, ◌^◌, ◌≡◌, length}
+use Rattle.std.specs.Prelude.{◌-◌, ◌^◌, ◌≡◌}
+use Rattle.laws.specs.Prelude.{length}
 use Rattle.rules.specs.Limits.{most_cells}
 use Rattle.loose_sheets.specs.Reader.Rows.{LooseInRows}
 use Rattle.loose_sheets.proofs.reader.rows.rows.Given as goal

@@ -1,5 +1,6 @@
 -- `marks::fast::below::copy_marks` meets its contract. The loop's invariant: `k` marks are copied; below `b` nothing changed. Assumes nothing.
-use Rattle.laws.specs.Prelude.{ℕ, ◌+◌, ◌-◌, ◌≡◌, ◌∙◌, refl, subst, arith, length-set}
+use Rattle.std.specs.Prelude.{◌+◌, ◌-◌, ◌≡◌}
+use Rattle.laws.specs.Prelude.{ℕ, ◌∙◌, refl, subst, arith, length-set}
 use Rattle.representatives.specs.Copies.{Copied, copied_next}
 use Rattle.marks.proofs.fast.below.copy_marks.Goals as goal
 

@@ -1,5 +1,6 @@
 -- `marks::fast::below::copy_marks` meets its contract. The loop's invariant: `k` marks are copied; below `b` nothing changed. Assumes nothing.
-use Rattle.laws.specs.Prelude.{◌≤◌, ◌-◌, ◌≡◌, length}
+use Rattle.std.specs.Prelude.{◌≤◌, ◌-◌, ◌≡◌}
+use Rattle.laws.specs.Prelude.{length}
 use Rattle.representatives.specs.Copies.{Copied}
 use Rattle.marks.proofs.fast.below.copy_marks.Given as goal
 

@@ -1,7 +1,8 @@
 -- `marks::fast::below::mark_below` meets its contract. The loop's invariant: the groups below `g` are marked and known, and the work arrays keep
 -- their lengths.
 -- Assumes nothing.
-use Rattle.laws.specs.Prelude.{ℕ, ◌<◌, ◌≤◌, ◌+◌, ◌-◌, ◌^◌, ◌≡◌, ◌∙◌, refl, subst, List, arith, pow_mono, pow_pos}
+use Rattle.std.specs.Prelude.{◌<◌, ◌≤◌, ◌+◌, ◌-◌, ◌^◌, ◌≡◌}
+use Rattle.laws.specs.Prelude.{ℕ, ◌∙◌, refl, subst, List, arith, pow_mono, pow_pos}
 use Rattle.rules.specs.Calls.Answers.{ink_in}
 use Rattle.representatives.specs.Steps.{work_same, Near}
 use Rattle.marks.specs.Marking.{Below}

@@ -1,7 +1,7 @@
 -- `marks::fast::below::mark_below` meets its contract. The loop's invariant: the groups below `g` are marked and known, and the work arrays keep
 -- their lengths.
 -- Assumes nothing.
-use Rattle.laws.specs.Prelude.{◌≤◌, ◌-◌, ◌^◌, ◌≡◌}
+use Rattle.std.specs.Prelude.{◌≤◌, ◌-◌, ◌^◌, ◌≡◌}
 use Rattle.rules.specs.Calls.Answers.{ink_in}
 use Rattle.marks.proofs.Passing.{Long, Passed}
 use Rattle.marks.proofs.fast.below.mark_below.Given as goal

@@ -1,5 +1,6 @@
 -- `marks::fast::below::pass_copies` meets its contract. Assumes nothing.
-use Rattle.laws.specs.Prelude.{◌<◌, ◌∙◌, sym, refl, arith, pow_pos}
+use Rattle.std.specs.Prelude.{◌<◌}
+use Rattle.laws.specs.Prelude.{◌∙◌, sym, refl, arith, pow_pos}
 use Rattle.rules.specs.Nets.Wirings.{first_input}
 use Rattle.trees.specs.Groups.Members.{first_member}
 use Rattle.radix.specs.Parts.{without_first}

@@ -1,6 +1,7 @@
 -- `net_sheets::printer::net::print_digits` meets its contract. The loop's invariant: the digits from i on are left to write at p.
 -- Assumes nothing.
-use Rattle.laws.specs.Prelude.{ℕ, ◌<◌, ◌≤◌, ◌+◌, ◌-◌, List, map, arith, length, get_or, drop, set, length-map, length-drop}
+use Rattle.std.specs.Prelude.{◌<◌, ◌≤◌, ◌+◌, ◌-◌}
+use Rattle.laws.specs.Prelude.{ℕ, List, map, arith, length, get_or, drop, set, length-map, length-drop}
 use Rattle.rules.specs.Text.{digit_byte, zero_byte}
 use Rattle.laws.specs.Lists.Places.{map_at}
 use Rattle.net_sheets.specs.Text.Put.{NetLeft, all_left, next_left, past_left}

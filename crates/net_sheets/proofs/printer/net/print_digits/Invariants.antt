@@ -1,6 +1,7 @@
 -- `net_sheets::printer::net::print_digits` meets its contract. The loop's invariant: the digits from i on are left to write at p.
 -- Assumes nothing.
-use Rattle.laws.specs.Prelude.{◌≤◌, ◌-◌, map, length, drop}
+use Rattle.std.specs.Prelude.{◌≤◌, ◌-◌}
+use Rattle.laws.specs.Prelude.{map, length, drop}
 use Rattle.rules.specs.Text.{digit_byte}
 use Rattle.net_sheets.specs.Text.Put.{NetLeft}
 use Rattle.net_sheets.proofs.printer.net.print_digits.Given as goal

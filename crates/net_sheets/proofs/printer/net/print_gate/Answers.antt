@@ -1,6 +1,7 @@
 -- `net_sheets::printer::net::print_gate` meets its contract: after each call, what is left to write.
 -- Assumes nothing.
-use Rattle.laws.specs.Prelude.{ℕ, List, [], ◌∷◌, ◌++◌, map}
+use Rattle.std.specs.Prelude.{◌∷◌, ◌++◌}
+use Rattle.laws.specs.Prelude.{ℕ, List, [], map}
 use Rattle.rules.specs.Text.{space, newline, digit_byte}
 use Rattle.rules.specs.Sheets.Printed.{printed_gate}
 use Rattle.net_sheets.specs.Text.Put.{NetLeft, parts_left, put_left, room_for, room_byte, last_put}

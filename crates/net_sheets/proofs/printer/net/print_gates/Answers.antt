@@ -1,6 +1,7 @@
 -- `net_sheets::printer::net::print_gates` meets its contract. The loop's invariant: the lines from gate k on are left to write at p.
 -- Assumes nothing.
-use Rattle.laws.specs.Prelude.{ℕ, ◌≤◌, ◌+◌, ◌-◌, ◌*◌, ◌≡◌, sym, ap, List, ◌++◌, le_trans, arith, take, drop}
+use Rattle.std.specs.Prelude.{◌≤◌, ◌+◌, ◌-◌, ◌*◌, ◌≡◌, ◌++◌}
+use Rattle.laws.specs.Prelude.{ℕ, sym, ap, List, le_trans, arith, take, drop}
 use Rattle.nets.specs.Room.{most_digits}
 use Rattle.nets.specs.declared.forms.Net.{Net}
 use Rattle.nets.specs.Forms.{gate_of}

@@ -1,6 +1,6 @@
 -- `net_sheets::printer::net::print_gates` meets its contract. The loop's invariant: the lines from gate k on are left to write at p.
 -- Assumes nothing.
-use Rattle.laws.specs.Prelude.{◌-◌}
+use Rattle.std.specs.Prelude.{◌-◌}
 use Rattle.net_sheets.specs.Text.Put.{NetLeft}
 use Rattle.net_sheets.specs.Printer.Gates.{printed_gates, lines_from}
 use Rattle.net_sheets.proofs.printer.net.print_gates.Given as goal

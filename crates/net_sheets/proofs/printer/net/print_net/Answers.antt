@@ -1,6 +1,7 @@
 -- `net_sheets::printer::net::print_net` meets its contract: after each call, what is left to write.
 -- Assumes nothing.
-use Rattle.laws.specs.Prelude.{ℕ, List, [], ◌∷◌, ◌++◌, arith}
+use Rattle.std.specs.Prelude.{◌∷◌, ◌++◌}
+use Rattle.laws.specs.Prelude.{ℕ, List, [], arith}
 use Rattle.rules.specs.Text.{space, newline, text, decimal}
 use Rattle.rules.specs.Sheets.Printed.{line, printed_net}
 use Rattle.net_sheets.specs.Text.Put.{NetLeft, parts_left, put_left, room_for, last_put, put_wrote}

@@ -1,6 +1,7 @@
 -- `net_sheets::reader::digits::copy_digits` meets its contract. The loop's invariant: the first i digits are pasted.
 -- Assumes nothing.
-use Rattle.laws.specs.Prelude.{◌+◌, ◌-◌, ◌≡◌, ◌∙◌, ap, arith, get_or, set, paste, paste-zero}
+use Rattle.std.specs.Prelude.{◌+◌, ◌-◌, ◌≡◌}
+use Rattle.laws.specs.Prelude.{◌∙◌, ap, arith, get_or, set, paste, paste-zero}
 use Rattle.rules.specs.Text.{zero_byte}
 use Rattle.net_sheets.specs.Reader.Digits.{digits_at, digits_copied}
 use Rattle.net_sheets.proofs.reader.digits.copy_digits.Goals as goal

@@ -1,6 +1,7 @@
 -- `net_sheets::reader::digits::copy_digits` meets its contract. The loop's invariant: the first i digits are pasted.
 -- Assumes nothing.
-use Rattle.laws.specs.Prelude.{◌≤◌, ◌-◌, ◌≡◌, paste}
+use Rattle.std.specs.Prelude.{◌≤◌, ◌-◌, ◌≡◌}
+use Rattle.laws.specs.Prelude.{paste}
 use Rattle.net_sheets.specs.Reader.Digits.{digits_at}
 use Rattle.net_sheets.proofs.reader.digits.copy_digits.Given as goal
 

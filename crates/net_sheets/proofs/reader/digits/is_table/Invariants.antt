@@ -1,6 +1,7 @@
 -- `net_sheets::reader::digits::is_table` meets its contract. The loop's invariant: all are digits exactly when the rest is.
 -- Assumes nothing.
-use Rattle.laws.specs.Prelude.{◌-◌, ◌≡◌, length, drop}
+use Rattle.std.specs.Prelude.{◌-◌, ◌≡◌}
+use Rattle.laws.specs.Prelude.{length, drop}
 use Rattle.rules.specs.Lists.{all}
 use Rattle.rules.specs.Text.{is_digit}
 use Rattle.net_sheets.specs.Reader.Digits.{is_table}

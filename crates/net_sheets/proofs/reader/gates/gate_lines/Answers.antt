@@ -1,6 +1,7 @@
 -- `net_sheets::reader::gates::gate_lines` meets its contract. The loop's invariant: the gates from here are the gates from the start.
 -- Assumes nothing.
-use Rattle.laws.specs.Prelude.{◌<◌, ◌≤◌, ◌+◌, ◌*◌, refl, mul-le-mul, lt_of_le_of_lt, arith, lit<}
+use Rattle.std.specs.Prelude.{◌<◌, ◌≤◌, ◌+◌, ◌*◌}
+use Rattle.laws.specs.Prelude.{refl, mul-le-mul, lt_of_le_of_lt, arith, lit<}
 use Rattle.laws.specs.Numbers.Sizes.{Size, sized}
 use Rattle.nets.specs.Forms.{gates_of}
 use Rattle.nets.specs.Room.{most_digits}

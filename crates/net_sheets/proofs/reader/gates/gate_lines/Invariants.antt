@@ -1,6 +1,6 @@
 -- `net_sheets::reader::gates::gate_lines` meets its contract. The loop's invariant: the gates from here are the gates from the start.
 -- Assumes nothing.
-use Rattle.laws.specs.Prelude.{◌-◌}
+use Rattle.std.specs.Prelude.{◌-◌}
 use Rattle.net_sheets.specs.Reader.GateLines.{Building}
 use Rattle.net_sheets.proofs.reader.gates.gate_lines.Given as goal
 

@@ -1,6 +1,7 @@
 -- `net_sheets::reader::keys::key_names` meets its contract. The loop's invariant: the first `i` names have their keys.
 -- Assumes nothing.
-use Rattle.laws.specs.Prelude.{◌<◌, ◌≡◌, arith}
+use Rattle.std.specs.Prelude.{◌<◌, ◌≡◌}
+use Rattle.laws.specs.Prelude.{arith}
 use Rattle.rules.specs.Limits.{most_inputs}
 use Rattle.laws.specs.Numbers.Sizes.{sized}
 use Rattle.net_sheets.specs.Reader.Keys.{name_length, name_keyed}

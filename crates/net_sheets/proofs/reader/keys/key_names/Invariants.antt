@@ -1,6 +1,6 @@
 -- `net_sheets::reader::keys::key_names` meets its contract. The loop's invariant: the first `i` names have their keys.
 -- Assumes nothing.
-use Rattle.laws.specs.Prelude.{◌≤◌, ◌-◌}
+use Rattle.std.specs.Prelude.{◌≤◌, ◌-◌}
 use Rattle.nets.specs.Forms.{names_in}
 use Rattle.net_sheets.specs.Reader.Keys.{Keyed}
 use Rattle.net_sheets.proofs.reader.keys.key_names.Given as goal

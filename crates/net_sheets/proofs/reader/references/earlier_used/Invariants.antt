@@ -1,6 +1,6 @@
 -- `net_sheets::reader::references::earlier_used` meets its contract. The loop's invariant: all earlier gates are marked exactly when those from `k` on are.
 -- Assumes nothing.
-use Rattle.laws.specs.Prelude.{◌≤◌, ◌-◌, ◌≡◌}
+use Rattle.std.specs.Prelude.{◌≤◌, ◌-◌, ◌≡◌}
 use Rattle.net_sheets.specs.Reader.References.{marked_on}
 use Rattle.net_sheets.proofs.reader.references.earlier_used.Given as goal
 

@@ -1,6 +1,7 @@
 -- `net_sheets::reader::references::is_used` meets its contract. The loop's invariant: some gate uses r exactly when one from `k` on does.
 -- Assumes nothing.
-use Rattle.laws.specs.Prelude.{◌-◌, ◌≡◌, map, eqb}
+use Rattle.std.specs.Prelude.{◌-◌, ◌≡◌}
+use Rattle.laws.specs.Prelude.{map, eqb}
 use Rattle.rules.specs.Lists.{range, any}
 use Rattle.rules.specs.Sheets.Sheets.{used_by}
 use Rattle.nets.specs.Forms.{gate_of, gates_of}

@@ -1,6 +1,7 @@
 -- `net_sheets::reader::references::reference_of` meets its contract. The loop's invariant: the first match from `r` on is the first of all.
 -- Assumes nothing.
-use Rattle.laws.specs.Prelude.{ℕ, ◌-◌, ◌≡◌, List}
+use Rattle.std.specs.Prelude.{◌-◌, ◌≡◌}
+use Rattle.laws.specs.Prelude.{ℕ, List}
 use Rattle.rules.specs.Lists.{range, find, same}
 use Rattle.rules.specs.Sheets.Sheets.{reference_text}
 use Rattle.net_sheets.specs.Reader.Keys.{Keyed}

@@ -1,7 +1,8 @@
 -- `net_sheets::text::decimals::print_decimal` meets its contract. From 10 on the decimal value of k / 10 is written first, with the
 -- last digit after it.
 -- Assumes nothing.
-use Rattle.laws.specs.Prelude.{ℕ, ◌<◌, ◌≤◌, ◌+◌, ◌%◌, ◌/◌, ◌≡◌, ap, List, [], ◌∷◌, ◌++◌, arith}
+use Rattle.std.specs.Prelude.{◌<◌, ◌≤◌, ◌+◌, ◌%◌, ◌/◌, ◌≡◌, ◌∷◌, ◌++◌}
+use Rattle.laws.specs.Prelude.{ℕ, ap, List, [], arith}
 use Rattle.rules.specs.Text.{digit_byte, zero_byte, decimal}
 use Rattle.net_sheets.specs.Text.Put.{PutRoom, NetLeft, parts_left, put_left, room_for, room_byte, last_put}
 use Rattle.laws.specs.Numbers.Decimals.{decimal_one, decimal_more}

@@ -1,6 +1,7 @@
 -- `net_sheets::text::header::print_name` meets its contract: what is copied is the name, and then one byte is left to write.
 -- Assumes nothing.
-use Rattle.laws.specs.Prelude.{[], ◌∷◌, ◌++◌, arith}
+use Rattle.std.specs.Prelude.{◌∷◌, ◌++◌}
+use Rattle.laws.specs.Prelude.{[], arith}
 use Rattle.nets.specs.Forms.{name_in}
 use Rattle.net_sheets.specs.Text.Put.{NetLeft, all_left, put_left, room_for, room_byte, last_put}
 use Rattle.net_sheets.proofs.text.header.print_name.Goals as goal

@@ -1,6 +1,7 @@
 -- `net_sheets::text::header::print_names` meets its contract. The loop's invariant: the names from i on are left to write at p.
 -- Assumes nothing.
-use Rattle.laws.specs.Prelude.{◌+◌, [], ◌∷◌, ◌++◌, append_assoc, arith}
+use Rattle.std.specs.Prelude.{◌+◌, ◌∷◌, ◌++◌}
+use Rattle.laws.specs.Prelude.{[], append_assoc, arith}
 use Rattle.rules.specs.Text.{space}
 use Rattle.nets.specs.Forms.{name_in}
 use Rattle.net_sheets.specs.Text.Put.{NetLeft, all_left, put_left, room_for, none_left}

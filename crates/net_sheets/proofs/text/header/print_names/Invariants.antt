@@ -1,6 +1,6 @@
 -- `net_sheets::text::header::print_names` meets its contract. The loop's invariant: the names from i on are left to write at p.
 -- Assumes nothing.
-use Rattle.laws.specs.Prelude.{◌≤◌, ◌-◌}
+use Rattle.std.specs.Prelude.{◌≤◌, ◌-◌}
 use Rattle.nets.specs.Forms.{name_in}
 use Rattle.net_sheets.specs.Text.Put.{NetLeft}
 use Rattle.net_sheets.specs.Text.Lines.{spaced_from}

@@ -1,6 +1,7 @@
 -- `net_sheets::text::header::print_names_line` meets its contract: after all names but the last, the last is left to write.
 -- Assumes nothing.
-use Rattle.laws.specs.Prelude.{◌-◌, [], ◌∷◌, ◌++◌, arith}
+use Rattle.std.specs.Prelude.{◌-◌, ◌∷◌, ◌++◌}
+use Rattle.laws.specs.Prelude.{[], arith}
 use Rattle.rules.specs.Text.{newline}
 use Rattle.rules.specs.Sheets.Printed.{line}
 use Rattle.nets.specs.Forms.{name_in, names_in}

@@ -1,6 +1,7 @@
 -- `net_sheets::text::header::print_pair` meets its contract: after each call, what is left to write.
 -- Assumes nothing.
-use Rattle.laws.specs.Prelude.{[], ◌∷◌, ◌++◌, append_assoc, List, ℕ}
+use Rattle.std.specs.Prelude.{◌∷◌, ◌++◌}
+use Rattle.laws.specs.Prelude.{[], append_assoc, List, ℕ}
 use Rattle.rules.specs.Text.{space, newline, decimal}
 use Rattle.rules.specs.Sheets.Printed.{line}
 use Rattle.net_sheets.specs.Text.Put.{NetLeft, parts_left, put_left, room_for, last_put}

@@ -1,6 +1,7 @@
 -- `net_sheets::text::put::copy` meets its contract. The loop's invariant: the bytes of `t` from i on are left to write at p.
 -- Assumes nothing.
-use Rattle.laws.specs.Prelude.{◌≤◌, ◌-◌, length, drop}
+use Rattle.std.specs.Prelude.{◌≤◌, ◌-◌}
+use Rattle.laws.specs.Prelude.{length, drop}
 use Rattle.net_sheets.specs.Text.Put.{NetLeft}
 use Rattle.net_sheets.proofs.text.put.copy.Given as goal
 

@@ -1,6 +1,7 @@
 -- `table_reader::fast::blocks::due_block` meets its contract. The loop's invariant: the rows before the block and l lines of it are read.
 -- Assumes nothing.
-use Rattle.laws.specs.Prelude.{ℕ, ◌<◌, ◌≤◌, ◌+◌, ◌*◌, ◌≡◌, ◌∙◌, refl, add-zero, zero-mul, mul-le-mul_right, suc-mul, add-mul, add-one, arith, length}
+use Rattle.std.specs.Prelude.{◌<◌, ◌≤◌, ◌+◌, ◌*◌, ◌≡◌}
+use Rattle.laws.specs.Prelude.{ℕ, ◌∙◌, refl, add-zero, zero-mul, mul-le-mul_right, suc-mul, add-mul, add-one, arith, length}
 use Rattle.laws.specs.Prelude.{take}
 use Rattle.table_reader.specs.Fast.Due.{row_bytes}
 use Rattle.table_reader.specs.Fast.Block.{one_more, front_digits, FewBytes, few_bytes, fewer_lines, fewer_kept, line_after, block_left}

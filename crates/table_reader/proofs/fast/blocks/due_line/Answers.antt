@@ -1,6 +1,7 @@
 -- `table_reader::fast::blocks::due_line` meets its contract. The loop's invariant: the rows before the line and l rows of it are read.
 -- Assumes nothing.
-use Rattle.laws.specs.Prelude.{◌<◌, ◌≤◌, ◌+◌, ◌^◌, ◌*◌, ◌≡◌, ◌∙◌, refl, add-zero, zero-mul, mul-le-mul_right, suc-mul, add-one, arith, length}
+use Rattle.std.specs.Prelude.{◌<◌, ◌≤◌, ◌+◌, ◌^◌, ◌*◌, ◌≡◌}
+use Rattle.laws.specs.Prelude.{◌∙◌, refl, add-zero, zero-mul, mul-le-mul_right, suc-mul, add-one, arith, length}
 use Rattle.laws.specs.Prelude.{length-set, take-set-le}
 use Rattle.table_reader.specs.Fast.Due.{row_bytes}
 use Rattle.table_reader.specs.Fast.Block.{one_more, line_next, block_left}

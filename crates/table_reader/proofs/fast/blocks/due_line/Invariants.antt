@@ -1,6 +1,7 @@
 -- `table_reader::fast::blocks::due_line` meets its contract. The loop's invariant: the rows before the line and l rows of it are read.
 -- Assumes nothing.
-use Rattle.laws.specs.Prelude.{ℕ, ◌≤◌, ◌+◌, ◌-◌, ◌*◌, ◌≡◌, length}
+use Rattle.std.specs.Prelude.{◌≤◌, ◌+◌, ◌-◌, ◌*◌, ◌≡◌}
+use Rattle.laws.specs.Prelude.{ℕ, length}
 use Rattle.laws.specs.Prelude.{take}
 use Rattle.table_reader.specs.Fast.Rows.{TableReached}
 use Rattle.table_reader.specs.Fast.Due.{row_bytes}

@@ -1,6 +1,7 @@
 -- `table_reader::fast::blocks::due_rows` meets its contract. The loop's invariant: q blocks are read.
 -- Assumes nothing.
-use Rattle.laws.specs.Prelude.{◌<◌, ◌≤◌, ◌+◌, ◌-◌, ◌^◌, ◌*◌, ◌≡◌, ◌∙◌, refl, true, arith, length}
+use Rattle.std.specs.Prelude.{◌<◌, ◌≤◌, ◌+◌, ◌-◌, ◌^◌, ◌*◌, ◌≡◌}
+use Rattle.laws.specs.Prelude.{◌∙◌, refl, true, arith, length}
 use Rattle.laws.specs.Numbers.Sizes.{Size, sized}
 use Rattle.table_reader.specs.Fast.Block.{FewBytes, few_bytes, fewer_lines}
 use Rattle.table_reader.specs.Fast.Blocks.{blocks_start, blocks_next, blocks_left}

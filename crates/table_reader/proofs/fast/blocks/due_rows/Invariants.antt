@@ -1,6 +1,7 @@
 -- `table_reader::fast::blocks::due_rows` meets its contract. The loop's invariant: q blocks are read.
 -- Assumes nothing.
-use Rattle.laws.specs.Prelude.{◌-◌, ◌^◌, ◌≡◌, length}
+use Rattle.std.specs.Prelude.{◌-◌, ◌^◌, ◌≡◌}
+use Rattle.laws.specs.Prelude.{length}
 use Rattle.table_reader.specs.Fast.Blocks.{InBlocks}
 use Rattle.table_reader.proofs.fast.blocks.due_rows.Given as goal
 

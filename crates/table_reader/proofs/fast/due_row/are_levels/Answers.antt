@@ -1,6 +1,7 @@
 -- `table_reader::fast::due_row::are_levels` meets its contract. The loop's invariant: i levels are read, two bytes each.
 -- Assumes nothing.
-use Rattle.laws.specs.Prelude.{◌<◌, ◌+◌, ◌*◌, ◌≡◌, ◌∙◌, sym, arith, length, get_or}
+use Rattle.std.specs.Prelude.{◌<◌, ◌+◌, ◌*◌, ◌≡◌}
+use Rattle.laws.specs.Prelude.{◌∙◌, sym, arith, length, get_or}
 use Rattle.rules.specs.Text.{space_byte}
 use Rattle.table_reader.specs.Row.{row_start}
 use Rattle.table_reader.specs.Fast.Due.{not_due, table_levels_next, levels_done}

@@ -1,6 +1,6 @@
 -- `table_reader::fast::due_row::are_levels` meets its contract. The loop's invariant: i levels are read, two bytes each.
 -- Assumes nothing.
-use Rattle.laws.specs.Prelude.{◌+◌, ◌-◌, ◌*◌, ◌≡◌}
+use Rattle.std.specs.Prelude.{◌+◌, ◌-◌, ◌*◌, ◌≡◌}
 use Rattle.table_reader.specs.Row.{InRow}
 use Rattle.table_reader.proofs.fast.due_row.are_levels.Given as goal
 

@@ -1,6 +1,7 @@
 -- `table_reader::fast::due_row::are_wide` meets its contract: every level is in one of the three words.
 -- Assumes nothing.
-use Rattle.laws.specs.Prelude.{◌≤◌, ◌+◌, ◌-◌, ◌*◌, ◌≡◌, ◌∙◌, sym, ap, arith, eqb-true}
+use Rattle.std.specs.Prelude.{◌≤◌, ◌+◌, ◌-◌, ◌*◌, ◌≡◌}
+use Rattle.laws.specs.Prelude.{◌∙◌, sym, ap, arith, eqb-true}
 use Rattle.table_reader.specs.Fast.Words.{word_at, middle_near}
 use Rattle.table_reader.specs.Fast.Due.{not_due}
 use Rattle.table_reader.specs.Fast.Stand.{wide_stand}

@@ -1,6 +1,7 @@
 -- `table_reader::fast::due_row::due_ink` meets its contract: it finds nothing, or has compared all bytes of the row.
 -- Assumes nothing.
-use Rattle.laws.specs.Prelude.{ℕ, ◌<◌, ◌+◌, ◌*◌, ◌≡◌, ◌∙◌, sym, List, [], ◌∷◌, ◌++◌, arith, get_or, take}
+use Rattle.std.specs.Prelude.{◌<◌, ◌+◌, ◌*◌, ◌≡◌, ◌∷◌, ◌++◌}
+use Rattle.laws.specs.Prelude.{ℕ, ◌∙◌, sym, List, [], arith, get_or, take}
 use Rattle.rules.specs.Text.{space_byte, newline_byte, open_byte}
 use Rattle.table_reader.specs.Fast.Plain.{OneByte, Plain, two_plain, two_bytes_are}
 use Rattle.table_reader.specs.Fast.Stand.{small}

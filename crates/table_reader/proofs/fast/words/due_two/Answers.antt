@@ -1,6 +1,7 @@
 -- `table_reader::fast::words::due_two` meets its contract: a level is a byte.
 -- Assumes nothing.
-use Rattle.laws.specs.Prelude.{◌<◌, ◌+◌, arith, get_or, rules}
+use Rattle.std.specs.Prelude.{◌<◌, ◌+◌}
+use Rattle.laws.specs.Prelude.{arith, get_or, rules}
 use Rattle.table_reader.proofs.fast.words.due_two.Goals as goal
 
 pub overflow_cast-result : goal.overflow_cast-result

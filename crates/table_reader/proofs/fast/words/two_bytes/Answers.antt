@@ -1,6 +1,7 @@
 -- `table_reader::fast::words::two_bytes` meets its contract: each is a byte.
 -- Assumes nothing.
-use Rattle.laws.specs.Prelude.{◌<◌, ◌+◌, refl, arith, get_or}
+use Rattle.std.specs.Prelude.{◌<◌, ◌+◌}
+use Rattle.laws.specs.Prelude.{refl, arith, get_or}
 use Rattle.table_reader.proofs.fast.words.two_bytes.Goals as goal
 
 pub returns : goal.returns

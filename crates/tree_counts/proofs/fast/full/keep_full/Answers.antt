@@ -1,6 +1,7 @@
 -- `tree_counts::fast::full::keep_full` meets its contract. The loop's invariant: the recorded counts are right, and the parts passed have mark 2, so
 -- the next one, if it has mark 2, is full. Assumes nothing.
-use Rattle.laws.specs.Prelude.{ℕ, ◌<◌, ◌≤◌, ◌-◌, ◌^◌, ◌≡◌, ◌∙◌, ap, refl, List, arith, length, length-set}
+use Rattle.std.specs.Prelude.{◌<◌, ◌≤◌, ◌-◌, ◌^◌, ◌≡◌}
+use Rattle.laws.specs.Prelude.{ℕ, ◌∙◌, ap, refl, List, arith, length, length-set}
 use lib.Bits.{and_self}
 use Rattle.rules.specs.Limits.{most_inputs}
 use Rattle.rules.specs.Groups.Marks.{mark_in}

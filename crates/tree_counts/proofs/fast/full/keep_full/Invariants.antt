@@ -1,6 +1,7 @@
 -- `tree_counts::fast::full::keep_full` meets its contract. The loop's invariant: the recorded counts are right, and the parts passed have mark 2, so
 -- the next one, if it has mark 2, is full. Assumes nothing.
-use Rattle.laws.specs.Prelude.{◌-◌, ◌≡◌, length}
+use Rattle.std.specs.Prelude.{◌-◌, ◌≡◌}
+use Rattle.laws.specs.Prelude.{length}
 use Rattle.tree_counts.specs.Counts.{CountsKnown}
 use Rattle.tree_counts.specs.Fast.Full.{TwosTo}
 use Rattle.tree_counts.specs.Walking.{Passed}

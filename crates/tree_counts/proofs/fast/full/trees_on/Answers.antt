@@ -1,5 +1,6 @@
 -- `tree_counts::fast::full::trees_on` meets its contract: each entry of the table is checked against the rule. Assumes nothing.
-use Rattle.laws.specs.Prelude.{ℕ, refl, List, [], ◌∷◌}
+use Rattle.std.specs.Prelude.{◌∷◌}
+use Rattle.laws.specs.Prelude.{ℕ, refl, List, []}
 use Rattle.rules.specs.Lists.{range, all}
 use Rattle.trees.specs.Families.FamilyBounds.{trees_on}
 use Rattle.tree_counts.specs.Fast.Full.{table_entry}

@@ -1,5 +1,6 @@
 -- `wirings::fast::floors::floor_of` meets its contract, by the length of a number in bits. Assumes nothing.
-use Rattle.laws.specs.Prelude.{◌-◌, arith}
+use Rattle.std.specs.Prelude.{◌-◌}
+use Rattle.laws.specs.Prelude.{arith}
 use lib.Count.{leading_le}
 use Rattle.wirings.specs.Fast.Floors.{floor_zeros}
 use Rattle.wirings.proofs.fast.floors.floor_of.Goals as goal

@@ -1,5 +1,6 @@
 -- `wirings::leaves::group::leaves` meets its contract: the inputs that matter, and others up to two. Assumes nothing.
-use Rattle.laws.specs.Prelude.{◌<◌, ◌-◌, ◌^◌, ◌≡◌, arith, pow_mono}
+use Rattle.std.specs.Prelude.{◌<◌, ◌-◌, ◌^◌, ◌≡◌}
+use Rattle.laws.specs.Prelude.{arith, pow_mono}
 use Rattle.rules.specs.Limits.{most_inputs}
 use Rattle.rules.specs.Groups.Groups.{others, size}
 use Rattle.trees.specs.Groups.Members.{others_below}

@@ -1,5 +1,6 @@
 -- `wirings::leaves::matters::matters` meets its contract: the blocks are all cells, and show whether the input matters. Assumes nothing.
-use Rattle.laws.specs.Prelude.{◌<◌, arith}
+use Rattle.std.specs.Prelude.{◌<◌}
+use Rattle.laws.specs.Prelude.{arith}
 use Rattle.laws.specs.Numbers.Sizes.{Size, sized}
 use Rattle.wirings.specs.Leaves.Blocks.{run_within, all_cells, block_fits, tell}
 use Rattle.wirings.proofs.leaves.matters.matters.Goals as goal

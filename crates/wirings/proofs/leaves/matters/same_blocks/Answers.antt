@@ -1,5 +1,6 @@
 -- `wirings::leaves::matters::same_blocks` meets its contract. The loop's invariant: the blocks passed satisfy `SameBlock`. Assumes nothing.
-use Rattle.laws.specs.Prelude.{◌≤◌, ◌+◌, ◌-◌, ◌*◌, arith, length}
+use Rattle.std.specs.Prelude.{◌≤◌, ◌+◌, ◌-◌, ◌*◌}
+use Rattle.laws.specs.Prelude.{arith, length}
 use Rattle.rules.specs.Calls.Answers.{ink_in}
 use Rattle.wirings.specs.Leaves.Runs.{each_next}
 use Rattle.wirings.specs.Leaves.Blocks.{SameBlock, blocks_differ, blocks_same, block_within}

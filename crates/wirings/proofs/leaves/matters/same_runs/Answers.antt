@@ -1,5 +1,6 @@
 -- `wirings::leaves::matters::same_runs` meets its contract. The loop's invariant: the cells passed are the same. Assumes nothing.
-use Rattle.laws.specs.Prelude.{◌+◌, ◌-◌, ◌≡◌, arith}
+use Rattle.std.specs.Prelude.{◌+◌, ◌-◌, ◌≡◌}
+use Rattle.laws.specs.Prelude.{arith}
 use Rattle.rules.specs.Calls.Answers.{ink_in}
 use Rattle.wirings.specs.Leaves.Runs.{each_next, runs_differ, runs_same}
 use Rattle.wirings.proofs.leaves.matters.same_runs.Goals as goal

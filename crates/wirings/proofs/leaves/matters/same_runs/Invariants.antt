@@ -1,5 +1,5 @@
 -- `wirings::leaves::matters::same_runs` meets its contract. The loop's invariant: the cells passed are the same. Assumes nothing.
-use Rattle.laws.specs.Prelude.{◌≤◌, ◌-◌}
+use Rattle.std.specs.Prelude.{◌≤◌, ◌-◌}
 use Rattle.rules.specs.Calls.Answers.{ink_in}
 use Rattle.wirings.specs.Leaves.Runs.{WiringSameRuns}
 use Rattle.wirings.proofs.leaves.matters.same_runs.Given as goal
