@@ -1,0 +1,38 @@
+-- `families::count::family_count` meets its contract. Assumes nothing.
+use Rattle.std.specs.Prelude.{◌^◌}
+use Rattle.laws.specs.Prelude.{◌∙◌, arith}
+use Rattle.rules.specs.Limits.{most_inputs}
+use Rattle.settling.specs.Outcomes.{given_size, given_count, given_below}
+use Rattle.families.specs.Marked.{none_known, groups_room}
+use Rattle.families.specs.Outcomes.{count_given, count_turned, input_counted}
+use Rattle.families.proofs.count.family_count.Goals as goal
+
+pub count_marked-counted-requires : goal.count_marked-counted-requires
+count_marked-counted-requires c =
+    let taken = c.read_input-input.ensures.taken c.in-Accepted.is in
+    let size = given_size _ _ _ taken.given in (
+      size,
+      given_count _ _ _ taken.given,
+      taken.cells_long,
+      groups_room _ _ size,
+      taken.marks_long,
+      groups_room _ _ size,
+      none_known (2 ^ most_inputs),
+      given_below _ _ _ taken.given,
+    )
+
+pub returns-in-Refused : goal.returns-in-Refused
+returns-in-Refused c =
+    let a = c.args in
+    count_turned a.s.now a.cells.now a.marks.now (c.read_input-input.ensures.refused _ _ c.in-Refused.is)
+
+pub returns-in-Accepted : goal.returns-in-Accepted
+returns-in-Accepted c =
+    let a = c.args in
+    let taken = c.read_input-input.ensures.taken c.in-Accepted.is in
+    count_given a.s.now c.read_input-input.result.header _ a.cells.now a.marks.now c.count_marked-counted.result.trees _ _ _ _
+    c.count_marked-counted.ensures.0 taken.room
+    ∙ input_counted a.s.now a.cells.now a.marks.now _ _ taken
+
+pub slice_bounds-count_marked-end : goal.slice_bounds-count_marked-end
+slice_bounds-count_marked-end c = omega (arith, c.read_input-input.ensures.inside c.in-Accepted.is)
