@@ -1,0 +1,11 @@
+-- `jobs::next::mark_one_small` meets its contract: its arrays have room for a small table. Assumes nothing.
+use Rattle.laws.specs.Prelude.{arith}
+use Rattle.jobs.specs.Stepping.{mark_room}
+use Rattle.jobs.proofs.next.mark_one_small.Goals as goal
+
+pub mark_group-requires : goal.mark_group-requires
+mark_group-requires c =
+    mark_room _ _ _ _ _ c.requires.0 _ _ (omega (arith, c.requires.1)) (omega (arith, c.requires.1))
+
+pub returns : goal.returns
+returns c = c.mark_group.ensures

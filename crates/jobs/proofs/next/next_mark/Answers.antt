@@ -1,0 +1,15 @@
+-- `jobs::next::next_mark` meets its contract: the job's lines are read, or there is no table. Assumes nothing.
+use Rattle.rules.specs.Text.{space}
+use Rattle.jobs.specs.Forms.{fronted, not_fronted}
+use Rattle.jobs.specs.Stepping.{next_none}
+use Rattle.jobs.proofs.next.next_mark.Goals as goal
+
+pub next_under-requires : goal.next_under-requires
+unfolding space
+next_under-requires c =
+    (fronted _ _ c.header_lines-read.ensures _ _ c.in-On.is, c.requires.0, c.requires.1)
+
+pub returns-in-Back : goal.returns-in-Back
+unfolding space
+returns-in-Back c =
+    next_none _ _ _ _ (not_fronted _ _ c.header_lines-read.ensures _ _ c.in-Back.is _)

@@ -1,0 +1,16 @@
+-- `programs::output::make_output` meets its contract. Assumes nothing.
+use Rattle.laws.specs.Prelude.{◌∙◌, ap, subst}
+use Rattle.rules.specs.Limits.{most_inputs, most_cells, most_settled}
+use Rattle.rules.specs.Groups.Marks.{marks_length}
+use Rattle.rules.specs.Calls.Settling.{Made, make_call}
+use Rattle.rules.specs.Calls.Programs.{program_output, zeros, make_program}
+use Rattle.programs.specs.Prints.{Prints}
+use Rattle.programs.proofs.output.make_output.Goals as goal
+
+pub returns : goal.returns
+unfolding marks_length make_program
+returns c =
+    let printed = c.output_of.result in
+    subst (λ (made : Made). Prints printed.bytes printed.length (program_output made.answer made.output))
+    (c.make-answer.ensures ∙ ap (λ s. make_call s (zeros most_cells) (zeros (marks_length most_inputs)) (zeros most_settled)) c.first_read.ensures)
+    c.output_of.ensures
