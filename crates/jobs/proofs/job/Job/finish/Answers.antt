@@ -10,5 +10,5 @@ returns c =
 
 pub finish_in-requires : goal.finish_in-requires
 finish_in-requires c =
-    let cells_length : length c.args.self.cells ≡ most_cells = sym (length-map c.args.self.cells (λ v. v)) ∙ c.well_formed.0.1.1.1.0.1.0.1 in
+    let cells_length : length c.args.self.cells ≡ most_cells = c.well_formed.0.1.1.1.0.1.0.1 in
     omega (arith, cells_length)

@@ -9,5 +9,5 @@ returns c = record { same = refl; answer = c.mark_in.ensures c.args.self.cells }
 
 pub mark_in-requires : goal.mark_in-requires
 mark_in-requires c =
-    let marks_length_lem : length c.args.self.marks ≡ most_groups = sym (length-map c.args.self.marks (λ v. v)) ∙ c.well_formed.0.1.1.1.1.0.1.0.1 in
+    let marks_length_lem : length c.args.self.marks ≡ most_groups = c.well_formed.0.1.1.1.1.0.1.0.1 in
     omega (arith, marks_length_lem)

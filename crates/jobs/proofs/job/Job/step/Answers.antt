@@ -9,8 +9,8 @@ use Rattle.jobs.proofs.job.Job.step.Goals as goal
 
 pub next_mark-found-requires : goal.next_mark-found-requires
 next_mark-found-requires c =
-    let cells_length : length c.args.self.cells ≡ most_cells = sym (length-map c.args.self.cells (λ v. v)) ∙ c.well_formed.0.1.1.1.0.1.0.1 in
-    let marks_length_lem : length c.args.self.marks ≡ most_groups = sym (length-map c.args.self.marks (λ v. v)) ∙ c.well_formed.0.1.1.1.1.0.1.0.1 in
+    let cells_length : length c.args.self.cells ≡ most_cells = c.well_formed.0.1.1.1.0.1.0.1 in
+    let marks_length_lem : length c.args.self.marks ≡ most_groups = c.well_formed.0.1.1.1.1.0.1.0.1 in
     (omega (arith, cells_length), omega (arith, marks_length_lem))
 
 pub marked-requires : goal.marked-requires
