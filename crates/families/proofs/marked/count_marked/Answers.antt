@@ -29,7 +29,7 @@ tree_count-trees-requires c =
     let f : ℕ → ℕ = ink_in c.args.inks.now in
     let own : List ℕ = take (c.power-end.result - 0) c.mark_and_store-marked.new.marks in
     let is_own : own ≡ marks_of c.args.m c.args.n f = marks_front c.args.m c.args.n c.requires.0 f _ c.mark_and_store-marked.ensures.0.own.front c.power-end.result
-        c.power-end.ensures in
+    c.power-end.ensures in
     let leaves_are : c.leaves-leaves.result ≡ leaves_of c.args.m c.args.n f = c.leaves-leaves.ensures _ _ c.mark_and_store-marked.ensures.1 in
     subst⁻¹ (Countable own c.args.counts.now) leaves_are
     (leaves_countable c.args.m c.args.n c.requires.0 f own c.args.counts.now is_own c.requires.5 (λ g. inl (c.requires.6 g)))
@@ -39,7 +39,7 @@ returns c =
     let f : ℕ → ℕ = ink_in c.args.inks.now in
     let own : List ℕ = take (c.power-end.result - 0) c.mark_and_store-marked.new.marks in
     let is_own : own ≡ marks_of c.args.m c.args.n f = marks_front c.args.m c.args.n c.requires.0 f _ c.mark_and_store-marked.ensures.0.own.front c.power-end.result
-        c.power-end.ensures in
+    c.power-end.ensures in
     let leaves_are : c.leaves-leaves.result ≡ leaves_of c.args.m c.args.n f = c.leaves-leaves.ensures _ _ c.mark_and_store-marked.ensures.1 in
     let did = c.mark_and_store-marked in (
       record {

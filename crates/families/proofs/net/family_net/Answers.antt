@@ -18,9 +18,9 @@ wiring_of-wiring-requires c =
 
 pub fill-requires : goal.fill-requires
 fill-requires c =
-    let found : let a = c.args in WiringFound a.n a.marks.now (leaves_of a.m a.n (ink_in a.cells.now)) a.r c.wiring_of-wiring.result = 
-        let a = c.args in
-        subst (λ (g : ℕ). WiringFound a.n a.marks.now g a.r c.wiring_of-wiring.result) c.requires.6 c.wiring_of-wiring.ensures in
+    let found : let a = c.args in WiringFound a.n a.marks.now (leaves_of a.m a.n (ink_in a.cells.now)) a.r c.wiring_of-wiring.result =
+    let a = c.args in
+    subst (λ (g : ℕ). WiringFound a.n a.marks.now g a.r c.wiring_of-wiring.result) c.requires.6 c.wiring_of-wiring.ensures in
     let in_bounds : Sized c.args.m c.args.n c.args.cells.now = sized_cells c.args.m c.args.n c.args.cells.now c.requires.0 c.requires.1 in
     let a = c.args in
     let f = ink_in a.cells.now in (
@@ -31,9 +31,9 @@ fill-requires c =
 
 pub returns : goal.returns
 returns c =
-    let found : let a = c.args in WiringFound a.n a.marks.now (leaves_of a.m a.n (ink_in a.cells.now)) a.r c.wiring_of-wiring.result = 
-        let a = c.args in
-        subst (λ (g : ℕ). WiringFound a.n a.marks.now g a.r c.wiring_of-wiring.result) c.requires.6 c.wiring_of-wiring.ensures in
+    let found : let a = c.args in WiringFound a.n a.marks.now (leaves_of a.m a.n (ink_in a.cells.now)) a.r c.wiring_of-wiring.result =
+    let a = c.args in
+    subst (λ (g : ℕ). WiringFound a.n a.marks.now g a.r c.wiring_of-wiring.result) c.requires.6 c.wiring_of-wiring.ensures in
     let a = c.args in
     number_net a.m a.n c.requires.0 (ink_in a.cells.now) a.marks.now c.requires.3 a.r c.requires.5 c.wiring_of-wiring.result found
     c.requires.2 c.fill.result c.fill.ensures

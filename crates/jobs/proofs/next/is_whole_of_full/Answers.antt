@@ -9,11 +9,10 @@ pub returns-then-power-g : goal.returns-then-power-g
 returns-then-power-g c e = let z : ◌≡◌ {A = ℕ} 0 1 = cc in absurd (omega arith)
 
 pub returns : goal.returns
-returns c e =
-    (
-      whole_group_lem c.args.n c.power.result c.power.ensures c.args.g c.if-power-g.false,
-      λ p h. c.first_at_least.ensures.below p (omega (arith, eqb-true c.first_at_least.result (length c.args.inks.now) e, c.requires.1)),
-    )
+returns c e = (
+  whole_group_lem c.args.n c.power.result c.power.ensures c.args.g c.if-power-g.false,
+  λ p h. c.first_at_least.ensures.below p (omega (arith, eqb-true c.first_at_least.result (length c.args.inks.now) e, c.requires.1)),
+)
 
 pub power-requires : goal.power-requires
 power-requires c =

@@ -15,8 +15,7 @@ loop-k-preserved-then-same_table c =
     let k : ℕ = c.loop-k.k in
     let new : Net = c.args.new in
     let in_new : k < new.gates = subst⁻¹ (λ (j : ℕ). k < j) c.requires.2 c.loop-k-test.true in
-    let old : Net = c.args.old in
-    (
+    let old : Net = c.args.old in (
       omega (arith, c.loop-k-test.true),
       c.loop-k.invariant.1 ∙ sym
           (set_same old new k c.loop-k-test.true in_new (sym c.same_table.ensures ∙ c.if-same_table.true)),
@@ -72,9 +71,9 @@ overflow_add-set c =
     let old : Net = c.args.old in
     let few : k < most_gates = omega (arith, gates_count old c.requires.0, (sound_size old c.requires.0).inputs_most, c.loop-k-test.true) in
     let new : Net = c.args.new in
-    let small : (2 ^ (k + 1) ≤ 2 ^ 15) × (c.loop-k.set < 2 ^ 15) = 
-        let most = pow_mono {i = k + 1} {j = 15} (omega (arith, few)) in
-        (most, omega (arith, set_small old new k, c.loop-k.invariant.1)) in
+    let small : (2 ^ (k + 1) ≤ 2 ^ 15) × (c.loop-k.set < 2 ^ 15) =
+    let most = pow_mono {i = k + 1} {j = 15} (omega (arith, few)) in
+    (most, omega (arith, set_small old new k, c.loop-k.invariant.1)) in
     omega (arith, small, c.power-set.ensures)
 
 pub overflow_add-k-else-same_table-2 : goal.overflow_add-k-else-same_table-2

@@ -36,53 +36,53 @@ pub returns-then-roomy-net : goal.returns-then-roomy-net
 returns-then-roomy-net c =
     let cells_then : c.copy.new.out ≡ written c.args.cells.now c.args.inks.now = (put_wrote c.requires.long c.copy.ensures).text in
     let own : Sound c.args.net = sound _ _ _ c.requires.taken in
-    let roomy : let a = c.args in c.fill_while_few-filled.result.gates ≡ roomy_gates a.net.levels a.net.inputs (ink_in a.inks.now) (gates_of a.net) = 
-        let w = c.wiring_of in
-        roomy_filled c.args.net own (table_sized _ _ _ _ c.requires.taken c.requires.given).some w.result w.ensures.1 (ink_in c.args.inks.now)
-        c.fill_while_few-filled.result w.ensures.0 c.fill_while_few-filled.ensures in
+    let roomy : let a = c.args in c.fill_while_few-filled.result.gates ≡ roomy_gates a.net.levels a.net.inputs (ink_in a.inks.now) (gates_of a.net) =
+    let w = c.wiring_of in
+    roomy_filled c.args.net own (table_sized _ _ _ _ c.requires.taken c.requires.given).some w.result w.ensures.1 (ink_in c.args.inks.now)
+    c.fill_while_few-filled.result w.ensures.0 c.fill_while_few-filled.ensures in
     let takes : let a = c.args in leaves_out_of a.net.levels a.net.inputs (ink_in a.inks.now) (gates_of a.net) ≡ false = sym c.leaves_out.ensures ∙ c.if-leaves_out.false in
     first_told _ _ _ _ c.requires.taken c.requires.given _ _ c.args.out.now cells_then takes _ roomy c.if-roomy-net.true
 
 pub changed_gates-changed-requires : goal.changed_gates-changed-requires
 changed_gates-changed-requires c =
     let own : Sound c.args.net = sound _ _ _ c.requires.taken in
-    let done : Filled c.args.net.levels c.args.net.inputs (ink_in c.args.inks.now) c.wiring_of.result c.fill_while_few-filled.result = 
-        filled_whole c.args.net own (table_sized _ _ _ _ c.requires.taken c.requires.given).some c.wiring_of.result c.wiring_of.ensures.1
-        (ink_in c.args.inks.now)
-        c.fill_while_few-filled.result c.wiring_of.ensures.0 c.fill_while_few-filled.ensures c.if-roomy-net.false in
+    let done : Filled c.args.net.levels c.args.net.inputs (ink_in c.args.inks.now) c.wiring_of.result c.fill_while_few-filled.result =
+    filled_whole c.args.net own (table_sized _ _ _ _ c.requires.taken c.requires.given).some c.wiring_of.result c.wiring_of.ensures.1
+    (ink_in c.args.inks.now)
+    c.fill_while_few-filled.result c.wiring_of.ensures.0 c.fill_while_few-filled.ensures c.if-roomy-net.false in
     (own, done.levels, done.count ∙ c.wiring_of.ensures.0)
 
 pub write_sheet-requires : goal.write_sheet-requires
 write_sheet-requires c =
     let own : Sound c.args.net = sound _ _ _ c.requires.taken in
-    let roomy : let a = c.args in c.fill_while_few-filled.result.gates ≡ roomy_gates a.net.levels a.net.inputs (ink_in a.inks.now) (gates_of a.net) = 
-        let w = c.wiring_of in
-        roomy_filled c.args.net own (table_sized _ _ _ _ c.requires.taken c.requires.given).some w.result w.ensures.1 (ink_in c.args.inks.now)
-        c.fill_while_few-filled.result w.ensures.0 c.fill_while_few-filled.ensures in
+    let roomy : let a = c.args in c.fill_while_few-filled.result.gates ≡ roomy_gates a.net.levels a.net.inputs (ink_in a.inks.now) (gates_of a.net) =
+    let w = c.wiring_of in
+    roomy_filled c.args.net own (table_sized _ _ _ _ c.requires.taken c.requires.given).some w.result w.ensures.1 (ink_in c.args.inks.now)
+    c.fill_while_few-filled.result w.ensures.0 c.fill_while_few-filled.ensures in
     let all : c.args.net.gates ≤ roomy_gates c.args.net.levels c.args.net.inputs (ink_in c.args.inks.now) (gates_of c.args.net) = omega (arith, c.if-roomy-net.false, roomy) in
-    let done : Filled c.args.net.levels c.args.net.inputs (ink_in c.args.inks.now) c.wiring_of.result c.fill_while_few-filled.result = 
-        filled_whole c.args.net own (table_sized _ _ _ _ c.requires.taken c.requires.given).some c.wiring_of.result c.wiring_of.ensures.1
-        (ink_in c.args.inks.now)
-        c.fill_while_few-filled.result c.wiring_of.ensures.0 c.fill_while_few-filled.ensures c.if-roomy-net.false in
+    let done : Filled c.args.net.levels c.args.net.inputs (ink_in c.args.inks.now) c.wiring_of.result c.fill_while_few-filled.result =
+    filled_whole c.args.net own (table_sized _ _ _ _ c.requires.taken c.requires.given).some c.wiring_of.result c.wiring_of.ensures.1
+    (ink_in c.args.inks.now)
+    c.fill_while_few-filled.result c.wiring_of.ensures.0 c.fill_while_few-filled.ensures c.if-roomy-net.false in
     let takes : let a = c.args in leaves_out_of a.net.levels a.net.inputs (ink_in a.inks.now) (gates_of a.net) ≡ false = sym c.leaves_out.ensures ∙ c.if-leaves_out.false in
     let new : NetOf c.args.header.levels c.args.header.inputs (kept_gates c.args.net.levels c.args.net.inputs (ink_in c.args.inks.now) (gates_of c.args.net)) c.fill_while_few-filled.result = new_net _ _ _ _ c.requires.taken c.requires.given takes all c.wiring_of.result c.wiring_of.ensures.1
-        c.fill_while_few-filled.result done in
+    c.fill_while_few-filled.result done in
     let given = c.requires.given in
     (given.names, made_inside _ _ _ given _ new, settling_made_short _ _ _ given _ new)
 
 pub returns : goal.returns
 returns c =
     let own : Sound c.args.net = sound _ _ _ c.requires.taken in
-    let roomy : let a = c.args in c.fill_while_few-filled.result.gates ≡ roomy_gates a.net.levels a.net.inputs (ink_in a.inks.now) (gates_of a.net) = 
-        let w = c.wiring_of in
-        roomy_filled c.args.net own (table_sized _ _ _ _ c.requires.taken c.requires.given).some w.result w.ensures.1 (ink_in c.args.inks.now)
-        c.fill_while_few-filled.result w.ensures.0 c.fill_while_few-filled.ensures in
+    let roomy : let a = c.args in c.fill_while_few-filled.result.gates ≡ roomy_gates a.net.levels a.net.inputs (ink_in a.inks.now) (gates_of a.net) =
+    let w = c.wiring_of in
+    roomy_filled c.args.net own (table_sized _ _ _ _ c.requires.taken c.requires.given).some w.result w.ensures.1 (ink_in c.args.inks.now)
+    c.fill_while_few-filled.result w.ensures.0 c.fill_while_few-filled.ensures in
     let all : c.args.net.gates ≤ roomy_gates c.args.net.levels c.args.net.inputs (ink_in c.args.inks.now) (gates_of c.args.net) = omega (arith, c.if-roomy-net.false, roomy) in
     let cells_then : c.copy.new.out ≡ written c.args.cells.now c.args.inks.now = (put_wrote c.requires.long c.copy.ensures).text in
-    let done : Filled c.args.net.levels c.args.net.inputs (ink_in c.args.inks.now) c.wiring_of.result c.fill_while_few-filled.result = 
-        filled_whole c.args.net own (table_sized _ _ _ _ c.requires.taken c.requires.given).some c.wiring_of.result c.wiring_of.ensures.1
-        (ink_in c.args.inks.now)
-        c.fill_while_few-filled.result c.wiring_of.ensures.0 c.fill_while_few-filled.ensures c.if-roomy-net.false in
+    let done : Filled c.args.net.levels c.args.net.inputs (ink_in c.args.inks.now) c.wiring_of.result c.fill_while_few-filled.result =
+    filled_whole c.args.net own (table_sized _ _ _ _ c.requires.taken c.requires.given).some c.wiring_of.result c.wiring_of.ensures.1
+    (ink_in c.args.inks.now)
+    c.fill_while_few-filled.result c.wiring_of.ensures.0 c.fill_while_few-filled.ensures c.if-roomy-net.false in
     let takes : let a = c.args in leaves_out_of a.net.levels a.net.inputs (ink_in a.inks.now) (gates_of a.net) ≡ false = sym c.leaves_out.ensures ∙ c.if-leaves_out.false in
     let set = c.changed_gates-changed in
     let pre = c.requires in

@@ -1,0 +1,6 @@
+-- `capi::make_shallow::sitgurp_make_shallow` meets its contract: it is the call, its answer as three numbers. Assumes nothing.
+use Rattle.capi.specs.Layered.{flat_layered_lem}
+use Rattle.capi.proofs.make_shallow.sitgurp_make_shallow.Goals as goal
+
+pub returns : goal.returns
+returns c = flat_layered_lem c.make_shallow.ensures c.flat_layered.ensures
