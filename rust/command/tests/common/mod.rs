@@ -16,6 +16,13 @@ pub struct Ended {
     pub err: String,
 }
 
+/// A test's folder goes with it: `rt` refuses a checkout with links in it.
+impl Drop for Folder {
+    fn drop(&mut self) {
+        std::fs::remove_dir_all(&self.0).ok();
+    }
+}
+
 impl Folder {
     pub fn new(name: &str) -> Folder {
         let path = Path::new(env!("CARGO_TARGET_TMPDIR")).join(name);
