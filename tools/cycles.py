@@ -1,6 +1,6 @@
 #!/usr/bin/env python3
 """Turns the proof of a cycle of calls, proofs/+X/Proof.antt, with answers.py: usage: cycles.py PROOF OUTFOLDER CRATE MODULE NAMES.json FN:LTS[:PREFIX].."""
-import json, os, re, sys
+import json, os, re, sys, tempfile
 sys.path.insert(0, os.path.dirname(os.path.abspath(__file__)))
 import answers as A
 
@@ -63,8 +63,7 @@ for fn, lts, *rest in fns:
     for a, b in sorted(alias.items(), key=lambda x: -len(x[0])):
         s = re.sub(r"(?<![^\s()])" + re.escape(a) + r"(?![^\s()])", lambda _: b, s)
     head = [u for u in us if not re.search(r"\.(Reads|Kinds|Tie|PlainCycle|Lts-\S+)( as|\.|$)|\+\S+\.\{statement\}|Kinds\.\{In\}", u)]
-    tmp = f"/tmp/cycle-{fn}"
-    os.makedirs(tmp, exist_ok=True)
+    tmp = tempfile.mkdtemp(prefix=f"cycle-{fn}-")
     pf = os.path.join(tmp, "Proof.antt")
     open(pf, "w", encoding="utf-8").write(top + "\n" + "\n".join(head) + "\n\n" + s + "\n")
     key = [k for k in data if k.endswith(f".Lts-{fn}") and module in k][0]
@@ -74,7 +73,7 @@ for fn, lts, *rest in fns:
         if os.path.exists(os.path.join(tmp, x)):
             os.remove(os.path.join(tmp, x))
     A.one(crate, module, tmp, pf, f, module)
-    print(fn, *A.report, sep="\n  ")
+    print(fn, tmp, *A.report, sep="\n  ")
     for x in ("Answers.antt", "Invariants.antt"):
         p = os.path.join(tmp, x)
         if os.path.exists(p):

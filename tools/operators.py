@@ -7,11 +7,13 @@ laws/specs/Prelude passes many of the library's names on. Those with a place for
 """
 import os
 import re
+import shutil
 import sys
 
 ROOT = os.path.dirname(os.path.dirname(os.path.abspath(__file__)))
 LIBRARY = "Rattle.std.specs.Prelude"
-with open("/opt/rattle/rattle/std/specs/Prelude.antt", encoding="utf-8") as f:
+KIT = os.path.dirname(os.path.dirname(os.path.realpath(shutil.which("rt"))))
+with open(os.path.join(KIT, "rattle/std/specs/Prelude.antt"), encoding="utf-8") as f:
     SYMBOLS = {w for w in re.findall(r"[^\s{},]+", f.read()) if "◌" in w}
 OWN = set(os.listdir(os.path.join(ROOT, "crates")))
 USE = re.compile(r"^(ghost )?((?:pub |unfoldable )*)use (Rattle\.(\w+)\.[^\s{]+)\.\{([^{}]*)\}(;?)$")

@@ -204,9 +204,6 @@ def main():
         u = turn_rust(t, new)
         if u != t:
             open(p, "w", encoding="utf-8").write(u)
-    with open("/tmp/respelled.txt", "w") as f:
-        for k in sorted(new):
-            f.write(f"{k}\t{new[k]}\n")
 
 
 if __name__ == "__main__":

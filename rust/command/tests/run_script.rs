@@ -2,7 +2,6 @@
 
 use crate::common::{repository, Folder};
 use std::fs;
-use std::ops::Deref;
 use std::path::Path;
 use std::process::{Command, Output};
 
@@ -17,32 +16,11 @@ const CARGO: &str = "#!/bin/sh\nmkdir -p target/release\n\
 const WEB_BUILD: &str =
     "#!/bin/sh\nmkdir -p target/web\n: > target/web/sitgurp.html\necho the page is built\n";
 
-/// A folder outside the repository, since `rt ci` wants one crates.txt there alone. It goes with its value.
-struct Scripts {
-    folder: Folder,
-}
-
-impl Drop for Scripts {
-    fn drop(&mut self) {
-        fs::remove_dir_all(&self.folder.0).ok();
-    }
-}
-
-impl Deref for Scripts {
-    type Target = Folder;
-
-    fn deref(&self) -> &Folder {
-        &self.folder
-    }
-}
-
-/// A repository of scripts alone, with programs of its own in `bin`.
-fn scripts(name: &str, rt: &str) -> Scripts {
+/// A repository of scripts alone, with programs of its own in `bin`. It is outside this one, since `rt ci` wants one crates.txt there alone.
+fn scripts(name: &str, rt: &str) -> Folder {
     let path = std::env::temp_dir().join(format!("sitgurp_{name}_{}", std::process::id()));
     fs::create_dir_all(&path).expect("a folder");
-    let folder = Scripts {
-        folder: Folder(path),
-    };
+    let folder = Folder(path);
     for part in ["crates/capi", "rust/command", "web", "bin", "examples"] {
         fs::create_dir_all(folder.0.join(part)).expect("a folder");
     }
