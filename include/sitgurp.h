@@ -5,7 +5,7 @@
  *
  * Each call depends on its arguments alone and writes to nothing but the buffers lent to it. It keeps nothing from one call to the next, so any
  * number of threads may call at once, each with buffers of its own; it allocates nothing, opens nothing and waits for nothing.
- * Stack: 96 KB suffice for every call. The most is 87,376 bytes (sitgurp_family_tree at m 2, n 12), as
+ * Stack: 96 KB suffice for every call. The most is 87,344 bytes (sitgurp_family_tree at m 2, n 12), as
  * `(cd rust && cargo run --offline --release -q -p bench --bin stack)` measures it, by painting, at the largest n of each m.
  *
  * Bytes are lent as a pointer and a length. A pointer must be good for that many bytes, and must not be null even where the

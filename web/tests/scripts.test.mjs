@@ -36,6 +36,14 @@ test('text that depends on the length of a pointer is refused', () => {
     '  %r5 = ptrtoaddr ptr %r1 to i64': 1,
     '  %r5 = ptrtoaddr ptr %r2 to i32': 1,
     '  call void asm "nop", ""()': 1,
+    '  %r5 = load { ptr, i64 }, ptr %r2, align 8': 0,
+    '  %r5 = load { i8, i64 }, ptr %r2, align 8': 0,
+    '  %r5 = load { i8, ptr }, ptr %r2, align 8': 0,
+    '  %r5 = load { ptr, i8 }, ptr %r2, align 8': 1,
+    '  %r5 = load { ptr, ptr }, ptr %r2, align 8': 1,
+    '  %r5 = load { i8, { i8, ptr } }, ptr %r2, align 8': 1,
+    '  %r5 = load [2 x ptr], ptr %r2, align 8': 1,
+    '  store { i8, ptr } %r4, ptr %r2, align 8': 1,
   };
   for (const [line, status] of Object.entries(lines)) assert.equal(awk('layout.awk', [], `${good}${line}\n}\n`).status, status, line);
   assert.equal(awk('layout.awk', [], '').status, 1);
@@ -47,6 +55,18 @@ test('an address becomes a number of 64 bits from a pointer of 4 bytes', () => {
   const due = '  %r5.short = ptrtoaddr ptr %a0 to i32\n  %r5 = zext i32 %r5.short to i64\n  ret void\nattributes #0 = { nounwind }\n';
   assert.deepEqual([narrowed.status, narrowed.stdout], [0, due]);
   assert.equal(awk('narrow.awk', [], '  %r5 = ptrtoaddr ptr %a0 to i32\n').status, 1);
+});
+
+test('a byte and a pointer are loaded from 8 bytes apart', () => {
+  const narrowed = awk('narrow.awk', [], '  %r5 = load { i8, ptr }, ptr %r0, align 8\n');
+  const due = `  %r5.byte = load i8, ptr %r0, align 8
+  %r5.place = getelementptr i8, ptr %r0, i64 8
+  %r5.pointer = load ptr, ptr %r5.place, align 8
+  %r5.half = insertvalue { i8, ptr } poison, i8 %r5.byte, 0
+  %r5 = insertvalue { i8, ptr } %r5.half, ptr %r5.pointer, 1
+`;
+  assert.deepEqual([narrowed.status, narrowed.stdout], [0, due]);
+  assert.equal(awk('narrow.awk', [], '  store { i8, ptr } %r4, ptr %r0, align 8\n').status, 1);
 });
 
 // Inlines modules that are given by their names.

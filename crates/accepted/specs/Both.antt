@@ -1,7 +1,7 @@
 -- The two sheets of a call, a net sheet and a table sheet: which one is refused and why, or the net and the table under one header.
 -- Assumes nothing.
-use Rattle.std.specs.Prelude.{◌≤◌, ◌-◌, ◌^◌, ◌≡◌}
-use Rattle.laws.specs.Prelude.{ℕ, ◌∙◌, sym, ap, refl, true, false, Bool, not, List, arith, length, take, length-take, not-true, not-false}
+use Rattle.std.specs.Prelude.{◌≤◌, ◌-◌, ◌^◌, ◌≡◌, Result, Ok, Err}
+use Rattle.laws.specs.Prelude.{ℕ, ◌∙◌, sym, ap, subst, refl, true, false, Bool, not, List, arith, length, take, length-take, not-true, not-false}
 use Rattle.rules.specs.Sheets.Sheets as sheets
 use Rattle.rules.specs.Sheets.Sheets.{Table}
 use Rattle.rules.specs.Sheets.SheetRules.{TableRules}
@@ -13,14 +13,16 @@ use Rattle.laws.specs.Calls.Checking.{header_same}
 use Rattle.nets.specs.declared.forms.Header.{Header}
 use Rattle.nets.specs.declared.forms.Net.{Net}
 use Rattle.nets.specs.Forms.{header_of, table_in, net_in}
-use Rattle.answers.specs.AnswerMaps.{named_of}
+use Rattle.answers.specs.AnswerMaps.{named_of, refused_by}
+use Rattle.answers.specs.Kinds.{number_of}
 use Rattle.answers.specs.declared.named.Named.{Named}
 use Rattle.answers.specs.declared.named.Named.TheVariants as named
+use Rattle.answers.specs.declared.named.SheetRefusal.{SheetRefusal}
+use Rattle.answers.specs.declared.refusal.Kind.TheVariants as kinds
+use Rattle.answers.specs.declared.refusal.Refusal.{Refusal}
+use Rattle.net_sheets.specs.declared.reader.net.NetRead.{NetRead}
 use Rattle.table_reader.specs.TableReading.{inks_in}
 use Rattle.accepted.specs.Taken.{NetTaken, TableTaken, inks_kept}
-use Rattle.accepted.specs.declared.both.BothRead.{BothRead}
-use Rattle.accepted.specs.declared.both.Pairing.{Pairing}
-use Rattle.accepted.specs.declared.both.Pairing.TheVariants.{Accepted, Refused}
 
 pub data Pair : Type 0 where
   pair : sheets.Net → Table → Pair
@@ -40,44 +42,52 @@ read_both net_sheet_lem table_sheet_lem =
 
 -- ---- the result of reading both
 
-abbrev pub pairing_as : Pair → Pairing → Pair
-pairing_as both Accepted = both
-pairing_as both (Refused named number place) = turned_back (named_of named) number place
+abbrev pub turned_by : SheetRefusal → Pair
+turned_by e = turned_back (named_of e.named) (number_of e.refusal.kind) e.refusal.place
+
+abbrev pub pairing_as : (NetRead → Pair) → Result NetRead SheetRefusal → Pair
+pairing_as both (Ok read) = both read
+pairing_as both (Err e) = turned_by e
 
 -- the header of two accepted sheets and the net; the table's inks are at the front of `inks`
 pub record BothTaken (s t : List ℕ) (h : Header) (net : Net) (inks : List ℕ) : Type 0 where
   pub own : NetTaken s h net
   pub table : read_table t ≡ accepted (table_in s h (inks_in inks h))
 
-pub record BothReads (s t inks : List ℕ) (r : BothRead) : Type 0 where
-  pub answer : pairing_as (pair (net_in s r.header r.net) (table_in s r.header (inks_in inks r.header))) r.outcome ≡ read_both s t
-  pub held : r.outcome ≡ Accepted → BothTaken s t r.header r.net inks
+-- the net sheet s and the table sheet with the same header, in the definitions
+abbrev pub pair_of : List ℕ → List ℕ → NetRead → Pair
+pair_of s inks read = pair (net_in s read.header read.net) (table_in s read.header (inks_in inks read.header))
 
-module _ (s t inks : List ℕ) (h : Header) (net : Net) where
-  turned : (who : Named) (number place : ℕ) → read_both s t ≡ turned_back (named_of who) number place
-      → BothReads s t inks (record { outcome = Refused who number place; header = h; net = net })
-  turned who number place e = record { answer = sym e; held = λ accepts. let z : ◌≡◌ {A = ℕ} 0 1 = cc in absurd (omega arith) }
+pub record BothReads (s t inks : List ℕ) (r : Result NetRead SheetRefusal) : Type 0 where
+  pub answer : pairing_as (pair_of s inks) r ≡ read_both s t
+  pub held : (read : NetRead) → r ≡ Ok read → BothTaken s t read.header read.net inks
 
-  pub both_net_refused : (number place : ℕ) → read_net s ≡ refused number place
-      → BothReads s t inks (record { outcome = Refused named.Net number place; header = h; net = net })
+module _ (s t inks : List ℕ) where
+  turned : (e : SheetRefusal) → read_both s t ≡ turned_by e → BothReads s t inks (Err e)
+  turned e is = record { answer = sym is; held = λ read q. never read q }
+    where
+      never : (read : NetRead) → ◌≡◌ {A = Result NetRead SheetRefusal} (Err e) (Ok read) → BothTaken s t read.header read.net inks
+      never read q = let z : ◌≡◌ {A = ℕ} 0 1 = cc in absurd (omega arith)
+
+  pub both_net_refused : (e : Refusal) → read_net s ≡ refused_by e → BothReads s t inks (Err (record { named = named.Net; refusal = e }))
   unfolding read_both
-  both_net_refused number place e = turned named.Net number place (rw (e, read_both))
+  both_net_refused e is = turned _ (rw (is, read_both))
 
-  module _ (taken : NetTaken s h net) where
-    pub both_table_refused : (number place : ℕ) → read_table t ≡ refused number place
-        → BothReads s t inks (record { outcome = Refused named.Table number place; header = h; net = net })
+  module _ (h : Header) (net : Net) (taken : NetTaken s h net) where
+    pub both_table_refused : (e : Refusal) → read_table t ≡ refused_by e → BothReads s t inks (Err (record { named = named.Table; refusal = e }))
     unfolding read_both
-    both_table_refused number place e = turned named.Table number place (rw (taken.reads, e, read_both))
+    both_table_refused e is = turned _ (rw (taken.reads, is, read_both))
 
     -- the comparison of the headers
     module _ (k : Header) (other : TableTaken t k inks) (same : Bool) (told : same ≡ same_header (header_of s h) (header_of t k)) where
-      pub both_differ : not same ≡ true → BothReads s t inks (record { outcome = Refused named.Neither 12 0; header = h; net = net })
+      pub both_differ : not same ≡ true
+          → BothReads s t inks (Err (record { named = named.Neither; refusal = record { kind = kinds.HeadersDiffer; place = 0 } }))
       unfolding read_both
       both_differ e =
           let apart : same_header (header_of s h) (header_of t k) ≡ false = sym told ∙ not-true same e in
-          turned named.Neither 12 0 (rw (taken.reads, other.reads, apart, read_both))
+          turned _ (rw (taken.reads, other.reads, apart, read_both))
 
-      pub both_accepted : not same ≡ false → BothReads s t inks (record { outcome = Accepted; header = h; net = net })
+      pub both_accepted : not same ≡ false → BothReads s t inks (Ok (record { header = h; net = net }))
       unfolding read_both header_of
       both_accepted e =
           let alike : same_header (header_of s h) (header_of t k) ≡ true = sym told ∙ not-false same e in
@@ -85,10 +95,15 @@ module _ (s t inks : List ℕ) (h : Header) (net : Net) where
           let table : table_in t k (inks_in inks k) ≡ table_in s h (inks_in inks h) =
           λ i. record { header = one i; inks = take ((one i).levels ^ (one i).inputs) inks } in
           let reads : read_both s t ≡ pair (net_in s h net) (table_in t k (inks_in inks k)) = rw (taken.reads, other.reads, alike, read_both) in
+          let both : BothTaken s t h net inks = record { own = taken; table = other.reads ∙ ap accepted table } in
           record {
             answer = ap (pair (net_in s h net)) (sym table) ∙ sym reads;
-            held = λ _. record { own = taken; table = other.reads ∙ ap accepted table };
+            held = λ read q. subst (λ (x : NetRead). BothTaken s t x.header x.net inks) (the_read read q) both;
           }
+        where
+          the_read : (read : NetRead) → ◌≡◌ {A = Result NetRead SheetRefusal} (Ok (record { header = h; net = net })) (Ok read)
+              → record { header = h; net = net } ≡ read
+          the_read read q = cc
 
 -- ---- a call on two sheets
 
@@ -120,14 +135,15 @@ module _ {A : Type 0} (s t : List ℕ) (refusal : answers.Named → ℕ → ℕ 
           headers true h = rw (d, e, h, read_both) (sym (judges.goes_on net d table e))
           headers false h = rw (d, e, h, read_both) (sym (judges.goes_on net d table e ∙ judges.differ net table h))
 
-  module _ (inks : List ℕ) (r : BothRead) (read : BothReads s t inks r) where
-    pub both_turned : (who : Named) (number place : ℕ) → r.outcome ≡ Refused who number place → refusal (named_of who) number place ≡ call
+  module _ (inks : List ℕ) (r : Result NetRead SheetRefusal) (reads : BothReads s t inks r) where
+    pub both_turned : (e : SheetRefusal) → r ≡ Err e → refusal (named_of e.named) (number_of e.refusal.kind) e.refusal.place ≡ call
     unfolding on_both
-    both_turned who number place e = ap (on_both refusal onward) (ap (pairing_as _) (sym e) ∙ read.answer) ∙ by_both
+    both_turned e is = ap (on_both refusal onward) (ap (pairing_as _) (sym is) ∙ reads.answer) ∙ by_both
 
-    pub both_onward : r.outcome ≡ Accepted → onward (net_in s r.header r.net) (table_in s r.header (inks_in inks r.header)) ≡ call
+    pub both_onward : (read : NetRead) → r ≡ Ok read
+        → onward (net_in s read.header read.net) (table_in s read.header (inks_in inks read.header)) ≡ call
     unfolding on_both
-    both_onward e = ap (on_both refusal onward) (ap (pairing_as _) (sym e) ∙ read.answer) ∙ by_both
+    both_onward read is = ap (on_both refusal onward) (ap (pairing_as _) (sym is) ∙ reads.answer) ∙ by_both
 
 -- ---- the inks of two accepted sheets
 

@@ -1,6 +1,6 @@
 -- A sheet that was read, by value: its refusal, or its parts and what the calls on them require.
 -- Assumes nothing.
-use Rattle.std.specs.Prelude.{◌<◌, ◌≤◌, ◌-◌, ◌^◌, ◌≡◌}
+use Rattle.std.specs.Prelude.{◌<◌, ◌≤◌, ◌-◌, ◌^◌, ◌≡◌, Result, Ok, Err}
 use Rattle.laws.specs.Prelude.{ℕ, ◌∙◌, sym, ap, ap₂, subst⁻¹, List, sub-zero, one-le-pow, arith, length, take}
 use Rattle.rules.specs.Limits.{most_cells}
 use Rattle.rules.specs.Sheets.Sheets.{Gate}
@@ -18,13 +18,12 @@ use Rattle.nets.specs.Forms.{header_of, gates_of, net_in, table_in}
 use Rattle.nets.specs.Sound.{Sound}
 use Rattle.nets.specs.Evaluating.{Tabled}
 use Rattle.fields.specs.Header.FirstLines.{HeaderHeld}
-use Rattle.answers.specs.AnswerMaps.{outcome_as}
-use Rattle.answers.specs.declared.outcome.Outcome.TheVariants.{Accepted, Refused}
+use Rattle.answers.specs.AnswerMaps.{answer_as, refused_by}
+use Rattle.answers.specs.declared.refusal.Refusal.{Refusal}
 use Rattle.net_sheets.specs.Reader.NetReading.{NetReads}
 use Rattle.net_sheets.specs.declared.reader.net.NetRead.{NetRead}
 use Rattle.table_reader.specs.TableReading.{TableReads, inks_in}
 use Rattle.table_reader.specs.Full.{FullReads}
-use Rattle.table_reader.specs.declared.sheet.TableRead.{TableRead}
 use Rattle.net_sheets.specs.Text.Names.{NamesInside}
 use Rattle.readback.specs.Sheets.ReadBack.{net_accepted, table_accepted}
 use Rattle.trees.specs.Trees.NetTables.{kept_table, net_full}
@@ -54,33 +53,33 @@ pub record Given (s : List ℕ) (h : Header) (inks : List ℕ) : Type 0 where
 
 -- ---- the results of reading
 
-module _ (s : List ℕ) (r : NetRead) (read : NetReads s r) where
-  pub net_taken : r.outcome ≡ Accepted → NetTaken s r.header r.net
-  net_taken e =
-      let held = read.held e in
+module _ (s : List ℕ) (r : Result NetRead Refusal) (reads : NetReads s r) where
+  pub net_taken : (read : NetRead) → r ≡ Ok read → NetTaken s read.header read.net
+  net_taken read e =
+      let held = reads.held read e in
       record {
-        reads = sym read.answer ∙ ap (outcome_as (net_in s r.header r.net)) e;
+        reads = sym reads.answer ∙ ap (answer_as _) e;
         header = held.header;
         levels = held.whole.levels;
         inputs = held.whole.inputs;
       }
 
-  pub net_refused_lem : (number place : ℕ) → r.outcome ≡ Refused number place → read_net s ≡ refused number place
-  net_refused_lem number place e = sym read.answer ∙ ap (outcome_as (net_in s r.header r.net)) e
+  pub net_refused_lem : (e : Refusal) → r ≡ Err e → read_net s ≡ refused_by e
+  net_refused_lem e is = sym reads.answer ∙ ap (answer_as _) is
 
-module _ (s cells : List ℕ) (r : TableRead) (read : TableReads s cells r) where
-  pub table_taken : r.outcome ≡ Accepted → TableTaken s r.header cells
-  table_taken e = record { reads = sym read.answer ∙ ap (outcome_as (table_in s r.header (inks_in cells r.header))) e; header = (read.held e).header }
+module _ (s cells : List ℕ) (r : Result Header Refusal) (reads : TableReads s cells r) where
+  pub table_taken : (h : Header) → r ≡ Ok h → TableTaken s h cells
+  table_taken h e = record { reads = sym reads.answer ∙ ap (answer_as _) e; header = (reads.held h e).header }
 
-  pub read_table_refused : (number place : ℕ) → r.outcome ≡ Refused number place → read_table s ≡ refused number place
-  read_table_refused number place e = sym read.answer ∙ ap (outcome_as (table_in s r.header (inks_in cells r.header))) e
+  pub read_table_refused : (e : Refusal) → r ≡ Err e → read_table s ≡ refused_by e
+  read_table_refused e is = sym reads.answer ∙ ap (answer_as _) is
 
-module _ (s cells : List ℕ) (r : TableRead) (read : FullReads s cells r) where
-  pub full_taken : r.outcome ≡ Accepted → FullTaken s r.header cells
-  full_taken e = record { reads = sym read.answer ∙ ap (outcome_as (table_in s r.header (inks_in cells r.header))) e; header = (read.held e).header }
+module _ (s cells : List ℕ) (r : Result Header Refusal) (reads : FullReads s cells r) where
+  pub full_taken : (h : Header) → r ≡ Ok h → FullTaken s h cells
+  full_taken h e = record { reads = sym reads.answer ∙ ap (answer_as _) e; header = (reads.held h e).header }
 
-  pub read_full_refused : (number place : ℕ) → r.outcome ≡ Refused number place → read_full s ≡ refused number place
-  read_full_refused number place e = sym read.answer ∙ ap (outcome_as (table_in s r.header (inks_in cells r.header))) e
+  pub read_full_refused : (e : Refusal) → r ≡ Err e → read_full s ≡ refused_by e
+  read_full_refused e is = sym reads.answer ∙ ap (answer_as _) is
 
 -- ---- what the calls require
 

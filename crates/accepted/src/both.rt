@@ -4,91 +4,59 @@ ghost use Rattle.rules.specs.Limits.{most_cells};
 ghost use Rattle.accepted.specs.Taken.{NetTaken};
 ghost use Rattle.accepted.specs.Both.{BothReads};
 
-use answers::named::Named;
-use answers::outcome::Outcome;
+use answers::named::{Named, SheetRefusal};
+use answers::refusal::{Kind, Refusal};
 use fields::header::same::same_header;
-use net_sheets::reader::net::read_net;
+use net_sheets::reader::net::{NetRead, read_net};
 use nets::forms::{Header, Net};
 use table_reader::sheet::read_table;
 
-// The outcome for both sheets: accepted, or the number and place of a refusal and the sheet that it names.
-#[derive(Drop)]
-pub enum Pairing {
-    Accepted,
-    Refused {
-        named: Named,
-        number: usize,
-        place: usize,
-    },
-}
-
-// The result of reading two sheets. The header and the net are set if both sheets are accepted.
-#[derive(Drop)]
-pub struct BothRead {
-    pub outcome: Pairing,
-    pub header: Header,
-    pub net: Net,
-}
-
 // Reads the table sheet t that goes with the accepted net sheet s.
-fn read_beside(s: &[u8], header: Header, net: Net, t: &[u8], inks: &mut [u8]) -> BothRead
+fn read_beside(
+    s: &[u8],
+    header: Header,
+    net: Net,
+    t: &[u8],
+    inks: &mut [u8],
+) -> Result<NetRead, SheetRefusal>
     requires { NetTaken s.now header net × (most_cells ≤ length inks.old) }
     ensures { BothReads s.now t.now inks.new result }
 {
-    let read = read_table(t, inks);
-    let outcome = read.outcome;
-    let other = read.header;
-    match outcome {
-        Outcome::Refused { number, place } => BothRead {
-            outcome: Pairing::Refused {
-                named: Named::Table,
-                number,
-                place,
-            },
-            header,
-            net,
-        },
-        Outcome::Accepted => {
+    match read_table(t, inks) {
+        Err(refusal) => Err(SheetRefusal {
+            named: Named::Table,
+            refusal,
+        }),
+        Ok(other) => {
             let same = same_header(s, header, t, other);
             if !same {
-                return BothRead {
-                    outcome: Pairing::Refused {
-                        named: Named::Neither,
-                        number: 12,
+                return Err(SheetRefusal {
+                    named: Named::Neither,
+                    refusal: Refusal {
+                        kind: Kind::HeadersDiffer,
                         place: 0,
                     },
-                    header,
-                    net,
-                };
+                });
             }
-            BothRead {
-                outcome: Pairing::Accepted,
-                header,
-                net,
-            }
+            Ok(NetRead { header, net })
         }
     }
 }
 
 // Reads a net sheet and a table sheet, and compares their headers (12). Both may be any bytes. The table's inks go to the front of `inks`.
-pub fn read_both(net_sheet: &[u8], table_sheet: &[u8], inks: &mut [u8]) -> BothRead
+pub fn read_both(
+    net_sheet: &[u8],
+    table_sheet: &[u8],
+    inks: &mut [u8],
+) -> Result<NetRead, SheetRefusal>
     requires { most_cells ≤ length inks.old }
     ensures { BothReads net_sheet.now table_sheet.now inks.new result }
 {
-    let read = read_net(net_sheet);
-    let outcome = read.outcome;
-    let header = read.header;
-    let net = read.net;
-    match outcome {
-        Outcome::Refused { number, place } => BothRead {
-            outcome: Pairing::Refused {
-                named: Named::Net,
-                number,
-                place,
-            },
-            header,
-            net,
-        },
-        Outcome::Accepted => read_beside(net_sheet, header, net, table_sheet, inks),
+    match read_net(net_sheet) {
+        Err(refusal) => Err(SheetRefusal {
+            named: Named::Net,
+            refusal,
+        }),
+        Ok(read) => read_beside(net_sheet, read.header, read.net, table_sheet, inks),
     }
 }

@@ -1,2 +1,3 @@
 pub mod AnswerMaps
+pub mod Kinds
 pub mod Layered

@@ -1,7 +1,6 @@
 // The answers that several calls share.
 #![tactic(auto)]
 
-pub mod answer;
 pub mod layered;
 pub mod named;
-pub mod outcome;
+pub mod refusal;

@@ -4,6 +4,8 @@ ghost use Rattle.rules.specs.Sheets.ArrivalSheet.{arrival_of};
 ghost use Rattle.rules.specs.Nets.Arrivals.{quarter};
 ghost use Rattle.arrivals.specs.Ends.{timed, ends_in};
 
+use crate::sheet::lines::Span;
+
 // A fixed time, or an earliest and a latest.
 #[derive(Clone, Copy)]
 pub enum Arrival {
@@ -25,15 +27,15 @@ pub fn microseconds(quarters: u16) -> f64
     quarters as f64 * 0.25
 }
 
-// Returns the arrival between `from` and `to`, in quarters of a microsecond; it is fixed if they are equal.
-pub fn arrival_of(from: u16, to: u16) -> Arrival
-    ensures { result ≡ timed (arrival_of from to) }
+// Returns the arrival between the two times of an input; it is fixed if they are equal.
+pub fn arrival_of(span: Span) -> Arrival
+    ensures { result ≡ timed (arrival_of span.from span.to) }
 {
-    let earliest = microseconds(from);
-    if to == from {
+    let earliest = microseconds(span.from);
+    if span.to == span.from {
         return Arrival::Fixed(earliest);
     }
-    let latest = microseconds(to);
+    let latest = microseconds(span.to);
     Arrival::Between { earliest, latest }
 }
 

@@ -7,42 +7,40 @@ ghost use Rattle.arrivals.specs.ArrivalAnswers.{timing_as};
 use crate::arrival::Ends;
 use crate::settling::settling;
 use crate::sheet::reader::read_arrivals;
-use answers::outcome::Outcome;
+use answers::refusal::Refusal;
 use net_sheets::reader::net::read_net;
 use nets::forms::{Header, Net};
 
-// When the output settles, or which sheet is refused, and why.
-#[derive(Drop)]
-pub enum Timing {
-    Settles(Ends),
-    NetRefused { number: usize, place: usize },
-    ArrivalsRefused { number: usize, place: usize },
+// A refusal, of the net sheet or of the arrival sheet.
+#[derive(Clone, Copy, PartialEq, Eq, Debug)]
+pub enum ArrivalsRefusal {
+    Net(Refusal),
+    Arrivals(Refusal),
 }
 
 // Reads the arrival sheet t for the accepted net sheet s.
-fn settle_by(s: &[u8], header: Header, net: Net, t: &[u8], delay: u8) -> Timing
+fn settle_by(
+    s: &[u8],
+    header: Header,
+    net: Net,
+    t: &[u8],
+    delay: u8,
+) -> Result<Ends, ArrivalsRefusal>
     requires { NetTaken s.now header net }
     ensures { timing_as result ≡ arrivals_call s.now t.now delay }
 {
-    let read = read_arrivals(s, header, t);
-    let outcome = read.outcome;
-    let times = read.times;
-    match outcome {
-        Outcome::Refused { number, place } => Timing::ArrivalsRefused { number, place },
-        Outcome::Accepted => Timing::Settles(settling(net, times, delay)),
+    match read_arrivals(s, header, t) {
+        Err(refusal) => Err(ArrivalsRefusal::Arrivals(refusal)),
+        Ok(times) => Ok(settling(net, times, delay)),
     }
 }
 
 // Returns the earliest and the latest time at which a net's output settles, in microseconds. Both sheets may be any bytes.
-pub fn arrivals(s: &[u8], t: &[u8], delay: u8) -> Timing
+pub fn arrivals(s: &[u8], t: &[u8], delay: u8) -> Result<Ends, ArrivalsRefusal>
     ensures { timing_as result ≡ arrivals_call s.now t.now delay }
 {
-    let read = read_net(s);
-    let outcome = read.outcome;
-    let header = read.header;
-    let net = read.net;
-    match outcome {
-        Outcome::Refused { number, place } => Timing::NetRefused { number, place },
-        Outcome::Accepted => settle_by(s, header, net, t, delay),
+    match read_net(s) {
+        Err(refusal) => Err(ArrivalsRefusal::Net(refusal)),
+        Ok(read) => settle_by(s, read.header, read.net, t, delay),
     }
 }

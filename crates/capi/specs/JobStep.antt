@@ -1,11 +1,10 @@
 -- A step of a job as the call for C returns it: two numbers, the marks and how many groups have been passed.
 -- Assumes nothing.
-use Rattle.std.specs.Prelude.{◌<◌, ◌+◌, ◌≡◌}
+use Rattle.std.specs.Prelude.{◌<◌, ◌+◌, ◌≡◌, Some, None}
 use Rattle.laws.specs.Prelude.{ℕ, ◌∙◌, sym, ap, List, set}
 use Rattle.rules.specs.Calls.Answers.{written}
 use Rattle.rules.specs.Calls.Jobs.{Job, further, Stepped, step_job}
 use Rattle.laws.specs.Calls.Jobs.{step_done, step_on}
-use Rattle.jobs.specs.declared.next.Next.TheVariants.{Done, Mark}
 use Rattle.jobs.specs.Forms.{most_groups, job_in}
 use Rattle.jobs.specs.Stepping.{NextMark, marks_same, marks_further, job_further}
 use Rattle.capi.specs.declared.numbers.flat.SitgurpAnswer.{SitgurpAnswer}
@@ -23,11 +22,11 @@ module _ (lines cells marks : List ℕ) (passed : ℕ) where
   job = job_in lines cells marks passed
 
   -- there is room for the next mark
-  pub next_room : (mark : ℕ) → NextMark job (Mark mark) → passed + 1 < most_groups
+  pub next_room : (mark : ℕ) → NextMark job (Some mark) → passed + 1 < most_groups
   unfolding job_in
   next_room mark (on, room, is) = room
 
-  pub flat_step_done : NextMark job Done → FlatStepped lines cells marks passed (record { number = 21; value = 0 }) marks passed
+  pub flat_step_done : NextMark job None → FlatStepped lines cells marks passed (record { number = 21; value = 0 }) marks passed
   unfolding job_in
   flat_step_done h =
       let e = step_done job h in
@@ -38,7 +37,7 @@ module _ (lines cells marks : List ℕ) (passed : ℕ) where
         stands = sym (ap (λ (s : Stepped). s.job) e);
       }
 
-  pub flat_step_on : (mark : ℕ) → NextMark job (Mark mark)
+  pub flat_step_on : (mark : ℕ) → NextMark job (Some mark)
       → FlatStepped lines cells marks passed (record { number = 0; value = 0 }) (set marks (passed + 1) mark) (passed + 1)
   unfolding job_in further
   flat_step_on mark (h, room, is) =

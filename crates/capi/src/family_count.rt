@@ -2,7 +2,7 @@
 ghost use Rattle.rules.specs.Calls.FamilyCalls.{family_count_call};
 ghost use Rattle.capi.specs.Counted.{FlatCounted};
 
-use crate::numbers::flat::{SitgurpAnswer, flat};
+use crate::numbers::flat::SitgurpAnswer;
 
 // Returns how many trees the table of a table sheet has, and writes the cells and the marks.
 #[unsafe(no_mangle)]
@@ -13,5 +13,5 @@ pub extern "C" fn sitgurp_family_count(
 ) -> SitgurpAnswer
     ensures { FlatCounted (family_count_call sheet.now cells.old marks.old) result cells.new marks.new }
 {
-    flat(families::count::family_count(sheet, cells, marks))
+    SitgurpAnswer::from(families::count::family_count(sheet, cells, marks))
 }

@@ -2,7 +2,7 @@
 ghost use Rattle.rules.specs.Calls.FamilyCalls.{family_tree_call};
 ghost use Rattle.capi.specs.Made.{FlatMade};
 
-use crate::numbers::flat::{SitgurpAnswer, flat};
+use crate::numbers::flat::SitgurpAnswer;
 
 // Makes the net sheet of one number among the trees of a table sheet, with the buffers of making.
 #[unsafe(no_mangle)]
@@ -16,5 +16,5 @@ pub extern "C" fn sitgurp_family_tree(
     ensures { FlatMade (family_tree_call sheet.now number cells.old marks.old out.old)
         result cells.new marks.new out.new }
 {
-    flat(families::tree::family_tree(sheet, number, cells, marks, out))
+    SitgurpAnswer::from(families::tree::family_tree(sheet, number, cells, marks, out))
 }

@@ -2,7 +2,7 @@
 ghost use Rattle.rules.specs.Calls.Glyphs.{glyph_call};
 ghost use Rattle.capi.specs.WriteTable.{FlatWritten};
 
-use crate::numbers::flat::{SitgurpAnswer, flat};
+use crate::numbers::flat::SitgurpAnswer;
 
 // Writes the glyph that a net sheet prints from a picture. Returns the number of its cells.
 #[unsafe(no_mangle)]
@@ -17,5 +17,5 @@ pub extern "C" fn sitgurp_glyph(
     ensures { FlatWritten (glyph_call sheet.now width height picture.now offsets.now out.old) result
         out.new }
 {
-    flat(glyphs::call::glyph(sheet, width, height, picture, offsets, out))
+    SitgurpAnswer::from(glyphs::call::glyph(sheet, width, height, picture, offsets, out))
 }

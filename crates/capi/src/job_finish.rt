@@ -4,7 +4,7 @@ ghost use Rattle.rules.specs.Calls.Jobs.{finish_job};
 ghost use Rattle.jobs.specs.Forms.{job_in};
 ghost use Rattle.capi.specs.Made.{FlatMade};
 
-use crate::numbers::flat::{SitgurpAnswer, flat};
+use crate::numbers::flat::SitgurpAnswer;
 use jobs::{finishing, job};
 use radix::limits;
 
@@ -23,5 +23,5 @@ pub extern "C" fn sitgurp_job_finish_parts(
         out.old).made
         result cells.new marks.new out.new }
 {
-    flat(finishing::finish_in(lines, own, passed, cells, marks, out))
+    SitgurpAnswer::from(finishing::finish_in(lines, own, passed, cells, marks, out))
 }

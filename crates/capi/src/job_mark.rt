@@ -4,7 +4,7 @@ ghost use Rattle.rules.specs.Calls.Jobs.{ask_job};
 ghost use Rattle.jobs.specs.Forms.{job_in};
 ghost use Rattle.capi.specs.Numbers.Reached.{flat_reached};
 
-use crate::numbers::reached::{SitgurpMark, flat_reached};
+use crate::numbers::reached::SitgurpMark;
 use jobs::{asking, job};
 use marks::own;
 
@@ -18,5 +18,5 @@ pub extern "C" fn sitgurp_job_mark_parts(
 ) -> SitgurpMark
     ensures { (cells : List ℕ) → result ≡ flat_reached (ask_job (job_in lines.now cells marks.now passed) group).answer }
 {
-    flat_reached(asking::mark_in(lines, marks, passed, group))
+    SitgurpMark::from(asking::mark_in(lines, marks, passed, group))
 }

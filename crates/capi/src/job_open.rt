@@ -1,7 +1,6 @@
 // Opens a job for C. The caller owns the job, and lends its parts; include/sitgurp.h has them in one struct.
 ghost use Rattle.capi.specs.JobOpen.{FlatOpened};
 
-use crate::numbers::done::flat_done;
 use crate::numbers::flat::SitgurpAnswer;
 use jobs::{job, opening};
 use marks::own;
@@ -28,5 +27,5 @@ pub extern "C" fn sitgurp_job_open_parts(
     *cells = own_cells;
     *marks = own_marks;
     *passed = new.passed;
-    flat_done(outcome)
+    SitgurpAnswer::from(outcome)
 }

@@ -2,7 +2,7 @@
 ghost use Rattle.capi.specs.JobStep.{FlatStepped};
 
 use crate::numbers::flat::SitgurpAnswer;
-use jobs::next::Next;
+use answers::refusal::Kind;
 use jobs::{job, next};
 use marks::own;
 use radix::limits;
@@ -21,11 +21,11 @@ pub extern "C" fn sitgurp_job_step_parts(
     let before = *passed;
     let found = next::next_mark(lines, cells, marks, before);
     match found {
-        Next::Done => SitgurpAnswer {
-            number: 21,
+        None => SitgurpAnswer {
+            number: Kind::JobDone.number(),
             value: 0,
         },
-        Next::Mark(mark) => {
+        Some(mark) => {
             let g = before + 1;
             marks[g] = mark;
             *passed = g;

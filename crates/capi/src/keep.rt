@@ -2,7 +2,7 @@
 ghost use Rattle.rules.specs.Calls.Keeping.{keep_call};
 ghost use Rattle.capi.specs.Keep.{FlatKept};
 
-use crate::numbers::kept::{SitgurpKept, flat_kept};
+use crate::numbers::kept::SitgurpKept;
 
 // Fills the gates of a net sheet again for a table sheet, whose inks go to the cells buffer, and writes the sheet.
 #[unsafe(no_mangle)]
@@ -15,5 +15,5 @@ pub extern "C" fn sitgurp_keep(
     ensures { FlatKept (keep_call net.now table.now cells.old output.old) result cells.new
         output.new }
 {
-    flat_kept(keeping::keep::keep(net, table, cells, output))
+    SitgurpKept::from(keeping::keep::keep(net, table, cells, output))
 }

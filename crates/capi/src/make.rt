@@ -2,7 +2,7 @@
 ghost use Rattle.rules.specs.Calls.Settling.{make_call};
 ghost use Rattle.capi.specs.Made.{FlatMade};
 
-use crate::numbers::flat::{SitgurpAnswer, flat};
+use crate::numbers::flat::SitgurpAnswer;
 
 // Makes the settled net sheet of a table sheet, with the buffers of sitgurp_settle.
 #[unsafe(no_mangle)]
@@ -15,5 +15,5 @@ pub extern "C" fn sitgurp_make(
     ensures { FlatMade (make_call sheet.now cells.old marks.old out.old)
         result cells.new marks.new out.new }
 {
-    flat(settling::calls::make(sheet, cells, marks, out))
+    SitgurpAnswer::from(settling::calls::make(sheet, cells, marks, out))
 }

@@ -2,7 +2,7 @@
 ghost use Rattle.rules.specs.Calls.ShallowSettling.{make_shallow_call};
 ghost use Rattle.capi.specs.Layered.{FlatLayered};
 
-use crate::numbers::layered::{SitgurpShallow, flat_layered};
+use crate::numbers::layered::SitgurpShallow;
 
 // Makes the shallow net sheet of a table sheet, with the buffers of sitgurp_settle.
 #[unsafe(no_mangle)]
@@ -15,5 +15,5 @@ pub extern "C" fn sitgurp_make_shallow(
     ensures { FlatLayered (make_shallow_call sheet.now cells.old marks.old out.old)
         result cells.new marks.new out.new }
 {
-    flat_layered(settling::shallow::make_shallow(sheet, cells, marks, out))
+    SitgurpShallow::from(settling::shallow::make_shallow(sheet, cells, marks, out))
 }

@@ -2,7 +2,7 @@
 ghost use Rattle.rules.specs.Calls.Marking.{marking_call};
 ghost use Rattle.capi.specs.Marking.{FlatMarked};
 
-use crate::numbers::flat::{SitgurpAnswer, flat};
+use crate::numbers::flat::SitgurpAnswer;
 
 // Writes the marks of every group of bare cells to `marks`, and returns the whole group's mark.
 #[unsafe(no_mangle)]
@@ -14,5 +14,5 @@ pub extern "C" fn sitgurp_marking(
 ) -> SitgurpAnswer
     ensures { FlatMarked (marking_call m n cells.now marks.old) result marks.new }
 {
-    flat(marks::marking::marking(m, n, cells, marks))
+    SitgurpAnswer::from(marks::marking::marking(m, n, cells, marks))
 }

@@ -3,7 +3,7 @@ ghost use Rattle.std.specs.Prelude.{◌≡◌};
 ghost use Rattle.rules.specs.Calls.Multiplicity.{multiplicity_call};
 ghost use Rattle.capi.specs.Numbers.Flat.{flat_of};
 
-use crate::numbers::flat::{SitgurpAnswer, flat};
+use crate::numbers::flat::SitgurpAnswer;
 
 // Returns the multiplicity of a group of bare cells.
 #[unsafe(no_mangle)]
@@ -15,5 +15,5 @@ pub extern "C" fn sitgurp_multiplicity(
 ) -> SitgurpAnswer
     ensures { result ≡ flat_of (multiplicity_call m n cells.now group) }
 {
-    flat(classes::multiplicity::multiplicity(m, n, cells, group))
+    SitgurpAnswer::from(classes::multiplicity::multiplicity(m, n, cells, group))
 }

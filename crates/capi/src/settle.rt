@@ -2,7 +2,7 @@
 ghost use Rattle.rules.specs.Calls.Settling.{settle_call};
 ghost use Rattle.capi.specs.Made.{FlatMade};
 
-use crate::numbers::flat::{SitgurpAnswer, flat};
+use crate::numbers::flat::SitgurpAnswer;
 
 // Settles a net sheet: writes its table, its marks and its settled net sheet. Returns the sheet's length.
 #[unsafe(no_mangle)]
@@ -15,5 +15,5 @@ pub extern "C" fn sitgurp_settle(
     ensures { FlatMade (settle_call sheet.now cells.old marks.old out.old)
         result cells.new marks.new out.new }
 {
-    flat(settling::calls::settle(sheet, cells, marks, out))
+    SitgurpAnswer::from(settling::calls::settle(sheet, cells, marks, out))
 }

@@ -2,7 +2,7 @@
 ghost use Rattle.rules.specs.Calls.ShallowSettling.{settle_shallow_call};
 ghost use Rattle.capi.specs.Layered.{FlatLayered};
 
-use crate::numbers::layered::{SitgurpShallow, flat_layered};
+use crate::numbers::layered::SitgurpShallow;
 
 // Settles a net sheet to its shallow net sheet, with the buffers of sitgurp_settle.
 #[unsafe(no_mangle)]
@@ -15,5 +15,5 @@ pub extern "C" fn sitgurp_settle_shallow(
     ensures { FlatLayered (settle_shallow_call sheet.now cells.old marks.old out.old)
         result cells.new marks.new out.new }
 {
-    flat_layered(settling::shallow::settle_shallow(sheet, cells, marks, out))
+    SitgurpShallow::from(settling::shallow::settle_shallow(sheet, cells, marks, out))
 }

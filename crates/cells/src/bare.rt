@@ -4,39 +4,39 @@ ghost use Rattle.rules.specs.Calls.OpenCells.{full_cells};
 ghost use Rattle.answers.specs.AnswerMaps.{outcome_as};
 
 use crate::bound::first_at_least;
-use answers::outcome::Outcome;
+use answers::refusal::{Kind, Refusal};
 use radix::powers;
 
 // Returns refusal 9, 10 or 27, or accepts the cells as those of a full table.
-pub fn full_cells(m: usize, n: usize, cells: &[u8]) -> Outcome
+pub fn full_cells(m: usize, n: usize, cells: &[u8]) -> Result<(), Refusal>
     ensures { outcome_as tt result ≡ full_cells m n cells.now }
 {
     if !powers::size_fits(m, n) {
-        return Outcome::Refused {
-            number: 9,
+        return Err(Refusal {
+            kind: Kind::BareSize,
             place: 0,
-        };
+        });
     }
     if cells.len() != powers::power(m, n) {
-        return Outcome::Refused {
-            number: 9,
+        return Err(Refusal {
+            kind: Kind::BareSize,
             place: 0,
-        };
+        });
     }
     let open = first_at_least(m, cells);
     if cells.len() <= open {
-        return Outcome::Accepted;
+        return Ok(());
     }
     let over = first_at_least(m + 1, cells);
     if over < cells.len() {
-        Outcome::Refused {
-            number: 10,
+        Err(Refusal {
+            kind: Kind::BareCell,
             place: over,
-        }
+        })
     } else {
-        Outcome::Refused {
-            number: 27,
+        Err(Refusal {
+            kind: Kind::OpenCell,
             place: open,
-        }
+        })
     }
 }

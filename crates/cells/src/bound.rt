@@ -10,12 +10,10 @@ fn some_at_least(bound: usize, cells: &[u8]) -> bool
 {
     let least = bound as u8;
     let mut found: u8 = 0;
-    let mut k: usize = 0;
-    while k < cells.len() {
-        if least <= cells[k] {
+    for cell in cells {
+        if least <= *cell {
             found = 1;
         }
-        k += 1;
     }
     found != 0
 }
@@ -28,12 +26,10 @@ pub fn first_at_least(bound: usize, cells: &[u8]) -> usize
     if !some_at_least(bound, cells) {
         return cells.len();
     }
-    let mut k: usize = 0;
-    while k < cells.len() {
-        if bound <= cells[k] as usize {
+    for (k, cell) in cells.iter().enumerate() {
+        if bound <= *cell as usize {
             return k;
         }
-        k += 1;
     }
-    k
+    cells.len()
 }

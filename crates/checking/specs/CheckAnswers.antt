@@ -1,17 +1,25 @@
 -- What the code's answers and buffers represent in document 01's definitions.
 -- Assumes nothing.
+use Rattle.std.specs.Prelude.{Option, Some, None, Result, Ok, Err}
 use Rattle.laws.specs.Prelude.{ℕ, List}
 use Rattle.rules.specs.Calls.Answers as answers
 use Rattle.rules.specs.Calls.Checking as checking
 use Rattle.answers.specs.AnswerMaps.{named_of}
+use Rattle.answers.specs.Kinds.{number_of}
+use Rattle.answers.specs.declared.named.SheetRefusal.{SheetRefusal}
 use Rattle.rules.specs.Calls.Checking.{Checked}
-use Rattle.checking.specs.declared.verdict.Verdict.{Verdict}
-use Rattle.checking.specs.declared.verdict.Verdict.TheVariants.{Agree, Differ, Refused}
+
+-- the lowest index at which the two differ, if any
+abbrev pub comparison_of : Option ℕ → checking.Verdict
+comparison_of None = checking.agree
+comparison_of (Some index) = checking.differ index
+
+abbrev pub Verdict : Type 0
+Verdict = Result (Option ℕ) SheetRefusal
 
 abbrev pub verdict_of : Verdict → checking.Verdict
-verdict_of Agree = checking.agree
-verdict_of (Differ index) = checking.differ index
-verdict_of (Refused named number place) = checking.turned_down (named_of named) number place
+verdict_of (Ok found) = comparison_of found
+verdict_of (Err e) = checking.turned_down (named_of e.named) (number_of e.refusal.kind) e.refusal.place
 
 -- the verdict, and the cells buffer after the call
 abbrev pub checked_of : Verdict → List ℕ → Checked

@@ -1,7 +1,7 @@
 -- The first of each class in chains, one chain for each key.
 -- Assumes nothing.
 use Rattle.std.specs.Prelude.{◌<◌, ◌≤◌, ◌+◌, ◌≡◌}
-use Rattle.laws.specs.Prelude.{ℕ, ◌∙◌, sym, ap, refl, subst, subst⁻¹, true, false, Bool, true≢false, List, arith, length}
+use Rattle.laws.specs.Prelude.{ℕ, ◌∙◌, sym, ap, subst, subst⁻¹, true, false, Bool, true≢false, List, arith, length}
 use Rattle.laws.specs.Prelude.{get_or, take, set, get_or-set_same, get_or-set_other, get_or-take, length-take-le}
 use Rattle.rules.specs.Lists.{first_place}
 use Rattle.rules.specs.Groups.Groups.{alike_over}

@@ -1,6 +1,6 @@
 -- Chains of kept assignments. A head or a link is 1 more than a place, and 0 ends the chain; a link leads to an earlier place.
 -- Assumes nothing.
-use Rattle.std.specs.Prelude.{◌<◌, ◌≤◌, ◌+◌, ◌≡◌}
+use Rattle.std.specs.Prelude.{◌<◌, ◌+◌, ◌≡◌}
 use Rattle.laws.specs.Prelude.{ℕ, suc, zero, ◌∙◌, sym, ap, refl, subst, true, false, Bool, true≢false, List, arith, get_or, replicate}
 use Rattle.laws.specs.Lists.Tests.{not_true_false}
 

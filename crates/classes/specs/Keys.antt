@@ -1,7 +1,7 @@
 -- A key of an assignment: a number made of its inks at some assignments of the other inputs. Alike assignments have the same key, so only those with
 -- the same key are compared.
 -- Assumes nothing.
-use Rattle.std.specs.Prelude.{◌<◌, ◌≤◌, ◌+◌, ◌*◌, ◌%◌, ◌≡◌, ◌∷◌}
+use Rattle.std.specs.Prelude.{◌<◌, ◌+◌, ◌*◌, ◌%◌, ◌≡◌, ◌∷◌}
 use Rattle.laws.specs.Prelude.{ℕ, suc, zero, ◌∙◌, ap, refl, true, List, [], arith, length, get_or, take, drop}
 use Rattle.laws.specs.Prelude.{eqb-true}
 use Rattle.laws.specs.Lists.Walks.{rest}

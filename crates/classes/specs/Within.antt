@@ -3,8 +3,9 @@
 use Rattle.std.specs.Prelude.{◌<◌, ◌≤◌, ◌+◌, ◌-◌, ◌^◌, ◌≡◌}
 use Rattle.laws.specs.Prelude.{ℕ, List, le_trans, pow-le-pow_right, dec_lt, arith, length, get_or, take}
 use Rattle.laws.specs.Prelude.{get_or-eq_default}
+use Rattle.rules.specs.Limits.{most_cells}
 use Rattle.rules.specs.Calls.Answers.{ink_in}
-use Rattle.cells.specs.Full.{FullCells}
+use Rattle.cells.specs.Full.{Full}
 use Rattle.laws.specs.Numbers.Sizes.{sized}
 use Rattle.rules.specs.Groups.Groups.{part, size, others, points}
 use Rattle.trees.specs.Trees.Trees.{mix}
@@ -62,14 +63,16 @@ group_room {m} {n} room g =
       for_ys = le_trans (pow-le-pow_right room.some (size_le n (others n g))) room.for_ys;
     }
 
--- the most cells of a small table, and the most assignments that small arrays have room for
-abbrev pub few_cells : ℕ
-few_cells = 256
+-- any group of a full table has at most the table's cells of assignments
+pub group_fits : (m n : ℕ) (cells : List ℕ) → Full m n cells → (g : ℕ) → m ^ size n g ≤ most_cells
+group_fits m n cells full g =
+    let fit = sized m n full.size in
+    le_trans (pow-le-pow_right (omega (arith, fit.levels_least)) (size_le n g)) fit.cells_most
 
 -- every ink of a full table is a level, and so is 0
-pub inks_below : (m n : ℕ) (cells : List ℕ) → FullCells m n cells → length cells ≡ m ^ n → (k : ℕ) → ink_in cells k < m
-inks_below m n cells full count k = go (dec_lt k (length cells))
+pub inks_below : (m n : ℕ) (cells : List ℕ) → Full m n cells → (k : ℕ) → ink_in cells k < m
+inks_below m n cells full k = go (dec_lt k (length cells))
   where
     go : Dec (k < length cells) → ink_in cells k < m
-    go (yes h) = full.levels k (omega arith)
+    go (yes h) = full.levels k (omega (arith, full.count))
     go (no h) = rw (get_or-eq_default cells 0 {n = k} (omega arith)) (omega (arith, (sized m n full.size).levels_least))

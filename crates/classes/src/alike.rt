@@ -6,18 +6,13 @@ ghost use Rattle.rules.specs.Calls.Answers.{ink_in};
 ghost use Rattle.classes.specs.Within.{Within};
 
 use crate::differences;
-use crate::differences::Difference;
 
 // Returns whether the ink is the same at p and at q for each assignment in ys of the other inputs.
 pub fn alike(cells: &[u8], ys: &[u16], p: usize, q: usize) -> bool
     requires { (Within (length cells.now) ys.now p) × (Within (length cells.now) ys.now q) }
     ensures { result ≡ alike_over (ink_in cells.now) ys.now p q }
 {
-    let found = differences::first_difference(cells, ys, p, q);
-    match found {
-        Difference::None => true,
-        Difference::At(_) => false,
-    }
+    differences::first_difference(cells, ys, p, q).is_none()
 }
 
 // Returns the number of p's class, or `count` if p is in none. The first `count` of `firsts` are the first assignments of the classes.
@@ -26,12 +21,10 @@ pub fn class_of(cells: &[u8], ys: &[u16], firsts: &[u16], count: usize, p: usize
         × ((j : ℕ) → j < count → Within (length cells.now) ys.now (get_or firsts.now j 0)) }
     ensures { result ≡ first_place (alike_over (ink_in cells.now) ys.now p) (take count firsts.now) }
 {
-    let mut j: usize = 0;
-    while j < count {
-        if alike(cells, ys, p, firsts[j] as usize) {
+    for (j, &first) in firsts[..count].iter().enumerate() {
+        if alike(cells, ys, p, first as usize) {
             return j;
         }
-        j += 1;
     }
     count
 }

@@ -32,22 +32,17 @@ pub fn class_firsts(
     ensures { Front (take enough (classes_over (ink_in cells.now) ys.now xs.now)) result firsts.new }
 {
     let mut count: usize = 0;
-    let mut i: usize = 0;
-    while i < xs.len() {
+    for &p in xs {
         if count == enough {
             return count;
         }
-        let p = xs[i];
         let key = keys::key(m, cells, ys, width, p as usize);
         let head = heads[key];
-        if keys::in_chain(cells, ys, firsts, links, head as usize, p as usize) {
-            i += 1;
-        } else {
+        if !keys::in_chain(cells, ys, firsts, links, head as usize, p as usize) {
             firsts[count] = p;
             links[count] = head;
             count += 1;
             heads[key] = count as u16;
-            i += 1;
         }
     }
     count

@@ -20,7 +20,7 @@ pub const MOST_COLUMNS: usize = 8;
 pub fn key_width(columns: usize, other: usize) -> usize
     ensures { (result ≤ other) × (result ≤ columns) }
 {
-    if other < columns { other } else { columns }
+    other.min(columns)
 }
 
 // Returns the key of p: its inks at the first `width` columns as the digits of a number in base m, reduced below 256.
@@ -29,11 +29,8 @@ pub fn key(m: usize, cells: &[u8], ys: &[u16], width: usize, p: usize) -> usize
     ensures { result ≡ key_of m (ink_in cells.now) ys.now width p }
 {
     let mut made: usize = 0;
-    let mut k: usize = 0;
-    while k < width {
-        let y = ys[k] as usize;
-        made = (made * m + cells[p + y] as usize) % KEYS;
-        k += 1;
+    for &y in &ys[..width] {
+        made = (made * m + cells[p + y as usize] as usize) % KEYS;
     }
     made
 }

@@ -6,43 +6,39 @@ ghost use Rattle.rules.specs.Calls.Answers.{ink_in};
 ghost use Rattle.rules.specs.Calls.Multiplicity.{multiplicity_call};
 ghost use Rattle.answers.specs.AnswerMaps.{answer_of};
 ghost use Rattle.laws.specs.Calls.Multiplicity.{group_answer};
-ghost use Rattle.cells.specs.Full.{FullCells};
-ghost use Rattle.classes.specs.Within.{few_cells};
 
 use crate::fast::folded;
 use crate::{counting, keys};
-use answers::answer::Answer;
-use answers::outcome::Outcome;
-use cells::bare;
-use radix::{limits, members, powers};
+use answers::refusal::{Kind, Refusal};
+use cells::table::Table;
+use radix::limits::MOST_CELLS;
+use radix::{members, powers};
 
 // The most assignments that small work arrays have room for. Clearing large ones takes longer than counting few assignments.
 const FEW_CELLS: usize = 256;
 
 // Returns the number of classes of a group. The arrays are for work.
 fn counted(
-    m: usize,
-    n: usize,
-    cells: &[u8],
+    table: Table,
     group: usize,
     xs: &mut [u16],
     ys: &mut [u16],
     firsts: &mut [u16],
     links: &mut [u16],
 ) -> usize
-    requires { (FullCells m n cells.now) × (length cells.now ≡ m ^ n) × (group < 2 ^ n) × (m ^ size n group ≤ length xs.old)
-        × (m ^ size n (others n group) ≤ length ys.old) × (length xs.old ≤ length firsts.old) × (length xs.old ≤ length links.old)
-        × (length xs.old ≤ most_cells) }
-    ensures { result ≡ multiplicity m n (ink_in cells.now) group }
+    requires { (group < 2 ^ table.inputs) × (table.levels ^ size table.inputs group ≤ length xs.old)
+        × (table.levels ^ size table.inputs (others table.inputs group) ≤ length ys.old) × (length xs.old ≤ length firsts.old)
+        × (length xs.old ≤ length links.old) × (length xs.old ≤ most_cells) }
+    ensures { let t = table.entry in result ≡ multiplicity t.levels t.inputs (ink_in t.cells.now) group }
 {
     let mut heads = [0u16; keys::KEYS];
     let enough = xs.len();
-    let counts = counting::group_offsets(m, n, group, xs, ys);
+    let counts = counting::group_offsets(table.levels, table.inputs, group, xs, ys);
     let own = counts.own;
     let other = counts.other;
     folded::fast_firsts(
-        m,
-        cells,
+        table.levels,
+        table.cells,
         &xs[0..own],
         &ys[0..other],
         enough,
@@ -52,83 +48,42 @@ fn counted(
     )
 }
 
-// Does the same with small arrays.
-fn counted_small(m: usize, n: usize, cells: &[u8], group: usize) -> usize
-    requires { (FullCells m n cells.now) × (length cells.now ≡ m ^ n) × (group < 2 ^ n)
-        × (m ^ size n group ≤ few_cells) × (m ^ size n (others n group) ≤ few_cells) }
-    ensures { result ≡ multiplicity m n (ink_in cells.now) group }
+// Does the same with its own arrays, each of room for CELLS assignments.
+fn counted_in<const CELLS: usize>(table: Table, group: usize) -> usize
+    requires { (group < 2 ^ table.inputs) × (table.levels ^ size table.inputs group ≤ CELLS)
+        × (table.levels ^ size table.inputs (others table.inputs group) ≤ CELLS) × (CELLS ≤ most_cells) }
+    ensures { let t = table.entry in result ≡ multiplicity t.levels t.inputs (ink_in t.cells.now) group }
 {
-    let mut xs = [0u16; FEW_CELLS];
-    let mut ys = [0u16; FEW_CELLS];
-    let mut firsts = [0u16; FEW_CELLS];
-    let mut links = [0u16; FEW_CELLS];
-    counted(
-        m,
-        n,
-        cells,
-        group,
-        &mut xs,
-        &mut ys,
-        &mut firsts,
-        &mut links,
-    )
-}
-
-// Does the same with arrays for any table.
-fn counted_large(m: usize, n: usize, cells: &[u8], group: usize) -> usize
-    requires { (FullCells m n cells.now) × (length cells.now ≡ m ^ n) × (group < 2 ^ n) }
-    ensures { result ≡ multiplicity m n (ink_in cells.now) group }
-{
-    let mut xs = [0u16; limits::MOST_CELLS];
-    let mut ys = [0u16; limits::MOST_CELLS];
-    let mut firsts = [0u16; limits::MOST_CELLS];
-    let mut links = [0u16; limits::MOST_CELLS];
-    counted(
-        m,
-        n,
-        cells,
-        group,
-        &mut xs,
-        &mut ys,
-        &mut firsts,
-        &mut links,
-    )
+    let mut xs = [0u16; CELLS];
+    let mut ys = [0u16; CELLS];
+    let mut firsts = [0u16; CELLS];
+    let mut links = [0u16; CELLS];
+    counted(table, group, &mut xs, &mut ys, &mut firsts, &mut links)
 }
 
 // Returns refusal 11, or the group's multiplicity.
-fn group_answer(m: usize, n: usize, cells: &[u8], group: usize) -> Answer
-    requires { (FullCells m n cells.now) × (length cells.now ≡ m ^ n) }
-    ensures { answer_of result ≡ group_answer m n cells.now group }
+fn group_answer(table: Table, group: usize) -> Result<usize, Refusal>
+    ensures { let t = table.entry in answer_of result ≡ group_answer t.levels t.inputs t.cells.now group }
 {
-    if group == 0 {
-        return Answer::Refused {
-            number: 11,
+    if group == 0 || powers::power(2, table.inputs) <= group {
+        return Err(Refusal {
+            kind: Kind::Group,
             place: 0,
-        };
-    }
-    if powers::power(2, n) <= group {
-        return Answer::Refused {
-            number: 11,
-            place: 0,
-        };
+        });
     }
     let members = members::members_of(group);
-    if FEW_CELLS < powers::power(m, members) {
-        return Answer::Accepted(counted_large(m, n, cells, group));
+    let own = powers::power(table.levels, members);
+    let other = powers::power(table.levels, table.inputs - members);
+    if FEW_CELLS < own || FEW_CELLS < other {
+        return Ok(counted_in::<MOST_CELLS>(table, group));
     }
-    if FEW_CELLS < powers::power(m, n - members) {
-        return Answer::Accepted(counted_large(m, n, cells, group));
-    }
-    Answer::Accepted(counted_small(m, n, cells, group))
+    Ok(counted_in::<FEW_CELLS>(table, group))
 }
 
 // Returns the number of classes of a group, or refusal 9, 10, 27 or 11. The caller may pass any arguments.
-pub fn multiplicity(m: usize, n: usize, cells: &[u8], group: usize) -> Answer
+pub fn multiplicity(m: usize, n: usize, cells: &[u8], group: usize) -> Result<usize, Refusal>
     ensures { answer_of result ≡ multiplicity_call m n cells.now group }
 {
-    let judged = bare::full_cells(m, n, cells);
-    match judged {
-        Outcome::Refused { number, place } => Answer::Refused { number, place },
-        Outcome::Accepted => group_answer(m, n, cells, group),
-    }
+    let table = Table::full(m, n, cells)?;
+    group_answer(table, group)
 }

@@ -5,3 +5,4 @@ pub mod Wires
 pub mod Laid
 pub mod Painted
 pub mod Cells
+pub mod Slices

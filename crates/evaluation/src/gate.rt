@@ -17,12 +17,10 @@ fn looked_up_values(
     requires { GateReady m digits.now from left right to count wires.old }
     ensures { GateDone m digits.now from left right to count wires.old wires.new }
 {
-    let mut p: usize = 0;
-    while p < count {
+    for p in 0..count {
         let l = wires[left + p] as usize;
         let r = wires[right + p] as usize;
         wires[to + p] = digits[from + l * m + r];
-        p += 1;
     }
 }
 

@@ -11,6 +11,7 @@ use radix::powers::power;
 pub const MOST_COLUMNS: usize = MOST_GATES;
 
 // Does what `values` does, gate by gate.
+#[tactic(auto, using(crate::proofs::Gates::gate_places))]
 fn gate_by_gate(
     net: Net,
     starts: [usize; MOST_WIRES],
@@ -27,14 +28,12 @@ fn gate_by_gate(
     let size = net.levels * net.levels;
     let mut at = starts;
     let mut to: usize = base;
-    let mut k: usize = 0;
-    while k < net.gates {
+    for k in 0..net.gates {
         let a = at[left[k] as usize];
         let b = at[right[k] as usize];
         gate_values(net.levels, &digits, k * size, a, b, to, count, wires);
         at[net.inputs + k] = to;
         to += count;
-        k += 1;
     }
     at[net.inputs + net.gates - 1]
 }
@@ -52,12 +51,8 @@ pub fn values(
     requires { ValuesReady net starts base count wires.old }
     ensures { ValuesDone net starts base count wires.old wires.new result }
 {
-    if net.levels > 2 {
-        if count <= MOST_INDICES {
-            if power(net.levels, net.inputs) <= count {
-                return table_values(net, starts, base, count, wires);
-            }
-        }
+    if net.levels > 2 && count <= MOST_INDICES && power(net.levels, net.inputs) <= count {
+        return table_values(net, starts, base, count, wires);
     }
     gate_by_gate(net, starts, base, count, wires)
 }

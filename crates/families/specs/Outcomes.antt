@@ -1,6 +1,6 @@
 -- What the answers and buffers of the two calls represent, and their outcomes in the order of the code.
 -- Assumes nothing.
-use Rattle.std.specs.Prelude.{◌<◌, ◌≤◌, ◌≡◌}
+use Rattle.std.specs.Prelude.{◌<◌, ◌≤◌, ◌≡◌, Result}
 use Rattle.laws.specs.Prelude.{ℕ, ◌∙◌, sym, subst, List}
 use Rattle.rules.specs.Sheets.Printed.{printed_net}
 use Rattle.rules.specs.Groups.Marks.{marks_of}
@@ -14,7 +14,7 @@ use Rattle.laws.specs.Calls.FamilyCalls.{family_tree_refused, family_tree_accept
 use Rattle.nets.specs.declared.forms.Header.{Header}
 use Rattle.nets.specs.declared.forms.Net as own
 use Rattle.nets.specs.Forms.{header_of, net_in, table_in}
-use Rattle.answers.specs.declared.answer.Answer.{Answer}
+use Rattle.answers.specs.declared.refusal.Refusal.{Refusal}
 use Rattle.answers.specs.AnswerMaps.{answer_of, made_of}
 use Rattle.accepted.specs.Taken.{Given}
 use Rattle.gate_tables.specs.MadeNet.{NetOf}
@@ -23,7 +23,7 @@ use Rattle.settling.specs.Input.{SettlingTurnedBack, by_sheet, by_room, InputTak
 use Rattle.families.specs.Marked.{MarkedCount}
 
 -- the answer, and the two buffers after the call
-abbrev pub counted_of : Answer → List ℕ → List ℕ → Counted
+abbrev pub counted_of : Result ℕ Refusal → List ℕ → List ℕ → Counted
 counted_of r cells marks = record { answer = answer_of r; cells = cells; marks = marks }
 
 -- ---- once the cells and the marks are written
@@ -57,7 +57,7 @@ module _ (s : List ℕ) (h : Header) (inks cells marks : List ℕ) (r : ℕ) (ce
       unfolding family_net header_of
       tree_is = net_is s h inks given net is
 
-      pub order_tree : (answer : Answer) (after : List ℕ)
+      pub order_tree : (answer : Result ℕ Refusal) (after : List ℕ)
           → ((own_cells own_marks : List ℕ) → made_of answer own_cells own_marks after ≡ written_sheet (printed_net (net_in s h net)) own_cells own_marks output)
           → made_of answer cells_then marks_then after ≡ after_count order (table_in s h inks) cells marks output
       unfolding header_of

@@ -7,8 +7,7 @@ ghost use Rattle.answers.specs.AnswerMaps.{made_of};
 ghost use Rattle.accepted.specs.Taken.{Given};
 
 use crate::{marked, net};
-use answers::answer::Answer;
-use answers::outcome::Outcome;
+use answers::refusal::{Kind, Refusal};
 use marks::own;
 use net_sheets::printer::output;
 use nets::forms::Header;
@@ -24,7 +23,7 @@ fn tree_marked(
     cells: &mut [u8],
     marks: &mut [u8],
     out: &mut [u8],
-) -> Answer
+) -> Result<usize, Refusal>
     requires { Given s.now header inks.now × (length inks.now ≤ length cells.old) × (marks_length header.inputs ≤ length marks.old) }
     ensures { made_of result cells.new marks.new out.new
         ≡ after_count order (table_in s.now header inks.now) cells.old marks.old out.old }
@@ -35,10 +34,10 @@ fn tree_marked(
     let mut counts = [0u64; own::MOST_GROUPS];
     let counted = marked::count_marked(levels, inputs, inks, cells, &mut own, marks, &mut counts);
     if counted.trees <= order {
-        return Answer::Refused {
-            number: 17,
+        return Err(Refusal {
+            kind: Kind::NoSuchTree,
             place: order as usize,
-        };
+        });
     }
     let end = powers::power(2, inputs);
     let leaves = counted.leaves;
@@ -61,17 +60,12 @@ pub fn family_tree(
     cells: &mut [u8],
     marks: &mut [u8],
     out: &mut [u8],
-) -> Answer
+) -> Result<usize, Refusal>
     ensures { made_of result cells.new marks.new out.new
         ≡ family_tree_call s.now order cells.old marks.old out.old }
 {
     let mut inks = [0u8; limits::MOST_CELLS];
-    let input = read_input(s, &mut inks, cells, marks);
-    let outcome = input.outcome;
-    let header = input.header;
-    let count = input.count;
-    match outcome {
-        Outcome::Refused { number, place } => Answer::Refused { number, place },
-        Outcome::Accepted => tree_marked(s, header, &inks[0..count], order, cells, marks, out),
-    }
+    let input = read_input(s, &mut inks, cells, marks)?;
+    let inks = &inks[0..input.count];
+    tree_marked(s, input.header, inks, order, cells, marks, out)
 }

@@ -1,101 +1,116 @@
 -- One reader after another, expressed by the steps of the code.
 -- Assumes nothing.
-use Rattle.std.specs.Prelude.{◌<◌, ◌≤◌, ◌≡◌}
-use Rattle.laws.specs.Prelude.{ℕ, ◌∙◌, sym, refl, List, arith, length, drop, drop_of_length-le, drop-cons}
+use Rattle.std.specs.Prelude.{◌<◌, ◌≤◌, ◌≡◌, Result, Ok, Err}
+use Rattle.laws.specs.Prelude.{ℕ, ◌∙◌, sym, ap, subst, refl, List, arith, length, drop, drop_of_length-le, drop-cons}
 use Rattle.rules.specs.Sheets.Fields.{Read, read, turned_back, Reader, then, ◌>>=◌, give, closed}
 use Rattle.rules.specs.Sheets.Reading.{answered}
-use Rattle.fields.specs.Steps.{step_as, nothing}
-use Rattle.answers.specs.AnswerMaps.{outcome_as}
-use Rattle.answers.specs.declared.outcome.Outcome.{Outcome}
-use Rattle.answers.specs.declared.outcome.Outcome.TheVariants.{Accepted, Refused}
-use Rattle.fields.specs.declared.steps.Step.{Step}
-use Rattle.fields.specs.declared.steps.Step.TheVariants.{On, Back}
+use Rattle.rules.specs.Calls.Answers.{Answer, accepted, refused}
+use Rattle.fields.specs.Steps.{Step, read_as, step_as, nothing}
+use Rattle.answers.specs.AnswerMaps.{answer_as, refused_by}
+use Rattle.answers.specs.Kinds.{number_of}
+use Rattle.answers.specs.declared.refusal.Kind.TheVariants as kinds
+use Rattle.answers.specs.declared.refusal.Refusal.{Refusal}
+use Rattle.fields.specs.declared.steps.Field.{Field}
 
-module _ {A B : Type 0} (f : ℕ → A) (one : Reader A) (rest : A → Reader B) (s : List ℕ) (at : ℕ) (step : Step)
-    (reads : step_as f s step ≡ one (drop at s) at) (g : ℕ → B) (r : Step) where
-  pub chained_back : (number place : ℕ) → step ≡ Back number place → r ≡ Back number place → step_as g s r ≡ (one >>= rest) (drop at s) at
+-- one field, then the rest of what is read, which has the result r
+module _ {A B R : Type 0} (f : ℕ → A) (one : Reader A) (rest : A → Reader B) (s : List ℕ) (at : ℕ) (step : Step)
+    (reads : step_as f s step ≡ one (drop at s) at) (g : R → B) (after : R → ℕ) (r : Result R Refusal) where
+  pub chained_back : (e : Refusal) → step ≡ Err e → r ≡ Err e → read_as g after s r ≡ (one >>= rest) (drop at s) at
   unfolding then
-  chained_back number place e q = rw (← reads, e, q) refl
+  chained_back e is q = rw (← reads, is, q) refl
 
-  pub chained_on : (value next : ℕ) → step ≡ On value next → step_as g s r ≡ rest (f value) (drop next s) next
-      → step_as g s r ≡ (one >>= rest) (drop at s) at
+  pub chained_on : (field : Field) → step ≡ Ok field → read_as g after s r ≡ rest (f field.value) (drop field.next s) field.next
+      → read_as g after s r ≡ (one >>= rest) (drop at s) at
   unfolding then
-  chained_on value next e onward = rw (← reads, e) onward
+  chained_on field is onward = rw (← reads, is) onward
 
 -- ---- the answer to a whole sheet
 
--- `reader` reads the rest of a sheet, with the outcome o; if the sheet is accepted, the result is b, and `Held` holds
-pub record Answers {B : Type 0} (s : List ℕ) (at : ℕ) (reader : Reader B) (b : B) (Held : Type 0) (o : Outcome) : Type 0 where
-  pub answer : outcome_as b o ≡ answered (reader (drop at s) at)
-  pub held : o ≡ Accepted → Held
+-- `reader` reads the rest of a sheet, with the result r; if the sheet is accepted, the value of the result is b, and `Held` holds of it
+pub record Answers {B R : Type 0} (s : List ℕ) (at : ℕ) (reader : Reader B) (b : R → B) (Held : R → Type 0) (r : Result R Refusal) : Type 0 where
+  pub answer : answer_as b r ≡ answered (reader (drop at s) at)
+  pub held : (x : R) → r ≡ Ok x → Held x
 
 -- a refusal accepts nothing
-never : {A : Type 0} (number place : ℕ) → Refused number place ≡ Accepted → A
-never number place e = let z : ◌≡◌ {A = ℕ} 0 1 = cc in absurd (omega arith)
+never : {A R : Type 0} (e : Refusal) (x : R) → ◌≡◌ {A = Result R Refusal} (Err e) (Ok x) → A
+never e x q = let z : ◌≡◌ {A = ℕ} 0 1 = cc in absurd (omega arith)
 
-module _ {A B : Type 0} (f : ℕ → A) (one : Reader A) (rest : A → Reader B) (s : List ℕ) (at : ℕ) (step : Step)
-    (reads : step_as f s step ≡ one (drop at s) at) (b : B) (Held : Type 0) where
-  pub answers_back : (number place : ℕ) → step ≡ Back number place → Answers s at (one >>= rest) b Held (Refused number place)
+module _ {A B R : Type 0} (f : ℕ → A) (one : Reader A) (rest : A → Reader B) (s : List ℕ) (at : ℕ) (step : Step)
+    (reads : step_as f s step ≡ one (drop at s) at) (b : R → B) (Held : R → Type 0) where
+  pub answers_back : (e : Refusal) → step ≡ Err e → Answers s at (one >>= rest) b Held (Err e)
   unfolding then answered
-  answers_back number place e = record { answer = rw (← reads, e) refl; held = never number place }
+  answers_back e is = record { answer = rw (← reads, is) refl; held = λ x q. never e x q }
 
-  pub answers_on : (value next : ℕ) (o : Outcome) → step ≡ On value next → Answers s next (rest (f value)) b Held o → Answers s at (one >>= rest) b Held o
+  pub answers_on : (field : Field) (r : Result R Refusal) → step ≡ Ok field → Answers s field.next (rest (f field.value)) b Held r
+      → Answers s at (one >>= rest) b Held r
   unfolding then
-  answers_on value next o e onward = record { answer = rw (← reads, e) onward.answer; held = onward.held }
+  answers_on field r is onward = record { answer = rw (← reads, is) onward.answer; held = onward.held }
 
 -- nothing may follow the last line
-module _ {B : Type 0} (rest : Unit {0} → Reader B) (s : List ℕ) (at : ℕ) (b : B) (Held : Type 0) where
-  pub answers_more : at < length s → Answers s at (closed >>= rest) b Held (Refused 1 at)
+module _ {B R : Type 0} (rest : Unit {0} → Reader B) (s : List ℕ) (at : ℕ) (b : R → B) (Held : R → Type 0) where
+  pub answers_more : at < length s → Answers s at (closed >>= rest) b Held (Err (record { kind = kinds.Layout; place = at }))
   unfolding then answered closed
-  answers_more h = record { answer = rw (drop-cons s at 0) refl; held = never 1 at }
+  answers_more h = record { answer = rw (drop-cons s at 0) refl; held = λ x q. never _ x q }
 
-  pub answers_ended : length s ≤ at → (o : Outcome) → Answers s at (rest tt) b Held o → Answers s at (closed >>= rest) b Held o
+  pub answers_ended : length s ≤ at → (r : Result R Refusal) → Answers s at (rest tt) b Held r → Answers s at (closed >>= rest) b Held r
   unfolding then closed
-  answers_ended h o after = record { answer = after.answer ∙ rw (drop_of_length-le s h); held = after.held }
+  answers_ended h r after = record { answer = after.answer ∙ rw (drop_of_length-le s h); held = after.held }
 
 -- ---- the end of a sheet
 
--- the outcome of a reader
-abbrev outcome_of : {A : Type 0} → Read A → Outcome
-outcome_of (read a rest place) = Accepted
-outcome_of (turned_back number place) = Refused number place
-
--- the outcome of a sheet whose last line this step read: nothing may follow that line
-unfoldable pub end_of : List ℕ → Step → Outcome
-end_of s step = outcome_of (then (step_as nothing s step) (λ _. closed))
+-- the answer to a sheet whose last line this step read: nothing may follow that line
+unfoldable pub end_of : List ℕ → Step → Answer (Unit {0})
+end_of s step = answered (then (step_as nothing s step) (λ _. closed))
 
 module _ (s : List ℕ) (step : Step) where
-  pub end_back : (number place : ℕ) → step ≡ Back number place → Refused number place ≡ end_of s step
-  unfolding end_of then
-  end_back number place e = rw e refl
+  pub end_back : (e : Refusal) → step ≡ Err e → refused_by e ≡ end_of s step
+  unfolding end_of then answered
+  end_back e is = rw is refl
 
-  pub end_over : (value next : ℕ) → step ≡ On value next → next < length s → Refused 1 next ≡ end_of s step
-  unfolding end_of then closed
-  end_over value next e over = rw (e, drop-cons s next 0) refl
+  pub end_over : (field : Field) → step ≡ Ok field → field.next < length s → refused 1 field.next ≡ end_of s step
+  unfolding end_of then closed answered
+  end_over field is over = rw (is, drop-cons s field.next 0) refl
 
-  pub end_closed : (value next : ℕ) → step ≡ On value next → length s ≤ next → Accepted ≡ end_of s step
-  unfolding end_of then closed
-  end_closed value next e end = rw (e, drop_of_length-le s end) refl
+  pub end_closed : (field : Field) → step ≡ Ok field → length s ≤ field.next → accepted tt ≡ end_of s step
+  unfolding end_of then closed answered
+  end_closed field is end = rw (is, drop_of_length-le s end) refl
 
 -- the last lines, whose value is a, and the end after them
-pub answers_end : {A B : Type 0} (lines : Reader A) (f : A → B) (s : List ℕ) (at : ℕ) (a : A) (step : Step) → step_as (λ _. a) s step ≡ lines (drop at s) at
-    → (Held : Type 0) → ((value next : ℕ) → step ≡ On value next → Held) → (o : Outcome) → o ≡ end_of s step
-    → Answers s at (lines >>= λ x. closed >>= λ _. give (f x)) (f a) Held o
-unfolding end_of then answered
-answers_end {A} {B} lines f s at a step reads Held held o is =
-    record { answer = rw (← reads, is) (given step); held = λ accepts. on step refl (sym is ∙ accepts) }
-  where
-    closes : (x : Read (Unit {0})) → outcome_as (f a) (outcome_of x) ≡ answered (then x (λ _. give (f a)))
-    closes (read u rest place) = refl
-    closes (turned_back number place) = refl
+module _ {A B R : Type 0} (lines : Reader A) (f : A → B) (s : List ℕ) (at : ℕ) (a : A) (step : Step) (reads : step_as (λ _. a) s step ≡ lines (drop at s) at)
+    (b : R → B) (Held : R → Type 0) where
+  abbrev whole : Reader B
+  whole = lines >>= λ x. closed >>= λ _. give (f x)
 
-    given : (step : Step) → outcome_as (f a) (end_of s step) ≡ answered (then (step_as (λ _. a) s step) (λ x. closed >>= λ _. give (f x)))
-    given (On value next) = closes (closed (drop next s) next)
-    given (Back number place) = refl
+  -- the end's answer, with the lines' value
+  abbrev valued : Answer (Unit {0}) → Answer B
+  valued (accepted _) = accepted (f a)
+  valued (refused number place) = refused number place
 
-    on : (last : Step) → step ≡ last → end_of s last ≡ Accepted → Held
-    on (On value next) e accepts = held value next e
-    on (Back number place) e accepts = never number place accepts
+  ending : answered (whole (drop at s) at) ≡ valued (end_of s step)
+  unfolding end_of then answered
+  ending = rw (← reads) (given step)
+    where
+      closes : (x : Read (Unit {0})) → answered (then x (λ _. give (f a))) ≡ valued (answered x)
+      closes (read u rest place) = refl
+      closes (turned_back number place) = refl
+
+      given : (step : Step) → answered (then (step_as (λ _. a) s step) (λ x. closed >>= λ _. give (f x))) ≡ valued (end_of s step)
+      given (Ok field) = closes (closed (drop field.next s) field.next)
+      given (Err e) = refl
+
+  pub end_refused : (e : Refusal) → refused_by e ≡ end_of s step → Answers s at whole b Held (Err e)
+  end_refused e is = record { answer = ap valued is ∙ sym ending; held = λ x q. never e x q }
+
+  pub end_accepted : (x : R) → b x ≡ f a → accepted tt ≡ end_of s step → ((field : Field) → step ≡ Ok field → Held x) → Answers s at whole b Held (Ok x)
+  unfolding end_of then answered
+  end_accepted x value is held = record { answer = ap accepted value ∙ (ap valued is ∙ sym ending); held = λ y e. subst Held (same e) (on step refl is) }
+    where
+      same : {y : R} → ◌≡◌ {A = Result R Refusal} (Ok x) (Ok y) → x ≡ y
+      same e = cc
+
+      on : (last : Step) → step ≡ last → accepted tt ≡ end_of s last → Held x
+      on (Ok field) e accepts = held field e
+      on (Err e) q accepts = let z : ◌≡◌ {A = ℕ} 0 1 = cc in absurd (omega arith)
 
 -- ---- readers and steps
 
@@ -104,6 +119,6 @@ unfolding then
 field_then_then (read a rest place) f g = refl
 field_then_then (turned_back number place) f g = refl
 
--- a step cannot be both
-pub never_both : (step : Step) (number place value next : ℕ) → step ≡ Back number place → step ≡ On value next → ⊥
-never_both step number place value next e q = let z : ◌≡◌ {A = ℕ} 0 1 = cc in omega arith
+-- a result cannot be both
+pub never_both : {R : Type 0} (r : Result R Refusal) (e : Refusal) (x : R) → r ≡ Err e → r ≡ Ok x → ⊥
+never_both r e x is q = let z : ◌≡◌ {A = ℕ} 0 1 = cc in omega arith

@@ -1,6 +1,6 @@
 -- A field that was judged, with the separator after it.
 -- Assumes nothing.
-use Rattle.std.specs.Prelude.{◌<◌, ◌≤◌, ◌+◌, ◌≡◌, ◌∷◌}
+use Rattle.std.specs.Prelude.{◌<◌, ◌≤◌, ◌+◌, ◌≡◌, ◌∷◌, Ok, Err}
 use Rattle.laws.specs.Prelude.{ℕ, suc, ◌∙◌, sym, ap, refl, true, false, Bool, List, [], add-one, arith, eqb, length, get_or, drop}
 use Rattle.laws.specs.Prelude.{drop_of_length-le, drop-cons, drop-drop, eq-eqb, ne_eqb}
 use Rattle.rules.specs.Sheets.Fields.{Read, read, turned_back, Judge, judged, separator, spaces, loose_separator, separator_in, after_field_in, field_of_in}
@@ -8,11 +8,11 @@ use Rattle.rules.specs.Sheets.Fields.{field, field_in, run, past, then, past_spa
 use Rattle.rules.specs.Text.{space, space_byte}
 use Rattle.laws.specs.Lists.Runs.{run_rest}
 use Rattle.fields.specs.Runs.{spaces_end, spaces_past}
-use Rattle.fields.specs.Steps.{tested, judged_as, judged_field, judged_field_in, step_as, itself}
-use Rattle.fields.specs.declared.steps.Step.{Step}
-use Rattle.fields.specs.declared.steps.Step.TheVariants.{On, Back}
-use Rattle.fields.specs.declared.steps.Verdict.{Verdict}
-use Rattle.fields.specs.declared.steps.Verdict.TheVariants.{Good, Bad}
+use Rattle.answers.specs.Kinds.{number_of}
+use Rattle.answers.specs.declared.refusal.Kind.{Kind}
+use Rattle.answers.specs.declared.refusal.Refusal.{Refusal}
+use Rattle.fields.specs.declared.steps.Field.{Field}
+use Rattle.fields.specs.Steps.{Step, Verdict, tested, judged_as, judged_field, judged_field_in, step_as, itself}
 
 -- ---- the byte after a field
 
@@ -38,13 +38,15 @@ module _ (s : List ℕ) (end value due : ℕ) where
   loose_line_end r e reads = rw (ne_eqb due space_byte e, loose_separator) (reads ∙ ap (λ t. separator value due t (spaces_end s end)) (spaces_past s end))
 
   module _ (step : Step) (e : due ≡ space_byte) (reads : step_as itself s step ≡ separator value due (drop end s) end) where
-    pub field_loose_back : (number place : ℕ) → step ≡ Back number place → turned_back number place ≡ loose_separator value due (drop end s) end
+    pub field_loose_back : (r : Refusal) → step ≡ Err r → turned_back (number_of r.kind) r.place ≡ loose_separator value due (drop end s) end
     unfolding loose_separator then space
-    field_loose_back number place q = rw (eq-eqb due space_byte e, loose_separator, ← reads, q) refl
+    field_loose_back r q = rw (eq-eqb due space_byte e, loose_separator, ← reads, q) refl
 
-    pub loose_space : (v next : ℕ) → step ≡ On v next → read v (drop (spaces_end s next) s) (spaces_end s next) ≡ loose_separator value due (drop end s) end
+    pub loose_space : (field : Field) → step ≡ Ok field
+        → read field.value (drop (spaces_end s field.next) s) (spaces_end s field.next) ≡ loose_separator value due (drop end s) end
     unfolding loose_separator then space spaces spaces_end
-    loose_space v next q = rw (eq-eqb due space_byte e, loose_separator, ← reads, q) (ap (λ t. read v t (spaces_end s next)) (spaces_past s next))
+    loose_space field q =
+        rw (eq-eqb due space_byte e, loose_separator, ← reads, q) (ap (λ t. read field.value t (spaces_end s field.next)) (spaces_past s field.next))
 
 -- ---- the field w at `at`, with the verdict v
 
@@ -68,11 +70,11 @@ module _ (layout : Layout) (s : List ℕ) (at : ℕ) (w : List ℕ) (v : Verdict
         go [] h = absurd (h refl)
         go (b ∷ w) h = refl
 
-    pub after_bad : (number : ℕ) → v ≡ Bad number → turned_back number at ≡ judged_field_in layout v due s at
+    pub after_bad : (kind : Kind) → v ≡ Err kind → turned_back (number_of kind) at ≡ judged_field_in layout v due s at
     unfolding after_field_in
-    after_bad number e = rw (full, e) refl
+    after_bad kind e = rw (full, e) refl
 
-    pub after_good : (value : ℕ) (r : Step) → v ≡ Good value → step_as itself s r ≡ separator_in layout value due (drop (at + length w) s) (at + length w)
+    pub after_good : (value : ℕ) (r : Step) → v ≡ Ok value → step_as itself s r ≡ separator_in layout value due (drop (at + length w) s) (at + length w)
         → step_as itself s r ≡ judged_field_in layout v due s at
     unfolding after_field_in
     after_good value r e reads = rw (full, e) (reads ∙ ap (λ t. separator_in layout value due t (at + length w)) rest)
@@ -89,8 +91,8 @@ module _ {A : Type 0} (f : ℕ → A) where
 
   step_mapped : (s : List ℕ) (r : Step) → step_as f s r ≡ mapped (step_as itself s r)
   unfolding mapped
-  step_mapped s (Step.On value next) = refl
-  step_mapped s (Step.Back number place) = refl
+  step_mapped s (Ok field) = refl
+  step_mapped s (Err e) = refl
 
   separator_mapped : (a due : ℕ) (rest : List ℕ) (place : ℕ) → mapped (separator a due rest place) ≡ separator (f a) due rest place
   unfolding mapped separator
@@ -127,9 +129,9 @@ module _ {A : Type 0} (f : ℕ → A) where
       → mapped (field_of_in layout (λ _. judged_as itself v) due w rest at) ≡ field_of_in layout judge due w rest at
   unfolding mapped field_of_in after_field_in
   field_mapped layout judge v due [] rest at e = refl
-  field_mapped layout judge (Good value) due (b ∷ w) rest at e =
+  field_mapped layout judge (Ok value) due (b ∷ w) rest at e =
       parted_mapped layout value due rest (at + suc (length w)) ∙ ap (λ j. after_field_in layout j due rest at (at + suc (length w))) e
-  field_mapped layout judge (Bad number) due (b ∷ w) rest at e = ap (λ j. after_field_in layout j due rest at (at + suc (length w))) e
+  field_mapped layout judge (Err kind) due (b ∷ w) rest at e = ap (λ j. after_field_in layout j due rest at (at + suc (length w))) e
 
   pub field_judged_in : (layout : Layout) (judge : Judge A) (due : ℕ) (s : List ℕ) (at : ℕ) (w : List ℕ) (v : Verdict) (r : Step) → w ≡ run (drop at s)
       → judged_as f v ≡ judge w → step_as itself s r ≡ judged_field_in layout v due s at → step_as f s r ≡ field_in layout judge due (drop at s) at
@@ -138,15 +140,15 @@ module _ {A : Type 0} (f : ℕ → A) where
       step_mapped s r ∙ (ap mapped after ∙ field_mapped layout judge v due (run (drop at s)) (past (drop at s)) at (judges ∙ ap judge is))
 
   -- the same when the judge is a test
-  pub field_tested_in : (layout : Layout) (judge : Judge A) (due : ℕ) (s : List ℕ) (at : ℕ) (w : List ℕ) (test : Bool) (value number : ℕ) (v : Verdict)
+  pub field_tested_in : (layout : Layout) (judge : Judge A) (due : ℕ) (s : List ℕ) (at : ℕ) (w : List ℕ) (test : Bool) (value : ℕ) (kind : Kind) (v : Verdict)
       (r : Step)
-      → w ≡ run (drop at s) → v ≡ tested test value number → judged test (f value) number ≡ judge w → step_as itself s r ≡ judged_field_in layout v due s at
+      → w ≡ run (drop at s) → v ≡ tested test value kind → judged test (f value) (number_of kind) ≡ judge w → step_as itself s r ≡ judged_field_in layout v due s at
       → step_as f s r ≡ field_in layout judge due (drop at s) at
   unfolding tested
-  field_tested_in layout judge due s at w test value number v r is e judges after =
+  field_tested_in layout judge due s at w test value kind v r is e judges after =
       field_judged_in layout judge due s at w v r is (ap (judged_as f) e ∙ (as_judged test ∙ judges)) after
     where
-      as_judged : (t : Bool) → judged_as f (tested t value number) ≡ judged t (f value) number
+      as_judged : (t : Bool) → judged_as f (tested t value kind) ≡ judged t (f value) (number_of kind)
       as_judged true = refl
       as_judged false = refl
 
@@ -155,7 +157,7 @@ module _ {A : Type 0} (f : ℕ → A) where
       → judged_as f v ≡ judge w → step_as itself s r ≡ judged_field v due s at → step_as f s r ≡ field judge due (drop at s) at
   field_judged = field_judged_in strict
 
-  pub field_tested : (judge : Judge A) (due : ℕ) (s : List ℕ) (at : ℕ) (w : List ℕ) (test : Bool) (value number : ℕ) (v : Verdict) (r : Step)
-      → w ≡ run (drop at s) → v ≡ tested test value number → judged test (f value) number ≡ judge w → step_as itself s r ≡ judged_field v due s at
+  pub field_tested : (judge : Judge A) (due : ℕ) (s : List ℕ) (at : ℕ) (w : List ℕ) (test : Bool) (value : ℕ) (kind : Kind) (v : Verdict) (r : Step)
+      → w ≡ run (drop at s) → v ≡ tested test value kind → judged test (f value) (number_of kind) ≡ judge w → step_as itself s r ≡ judged_field v due s at
       → step_as f s r ≡ field judge due (drop at s) at
   field_tested = field_tested_in strict

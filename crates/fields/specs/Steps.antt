@@ -1,18 +1,25 @@
 -- The meaning of the code's answers in the definitions.
 -- Assumes nothing.
+use Rattle.std.specs.Prelude.{Option, Some, None, Result, Ok, Err}
 use Rattle.laws.specs.Prelude.{ℕ, Bool, cond, List, drop}
-use Rattle.std.proofs.Math.Option.{Option, none, some}
+use Rattle.std.proofs.Math.Option as math
 use Rattle.rules.specs.Lists.{same}
 use Rattle.rules.specs.Sheets.Fields.{Read, read, turned_back, Judge, Judged, good, bad, judged, field_in, strict, loose}
 use Rattle.rules.specs.Sheets.Fields as fields
-use Rattle.fields.specs.declared.steps.Found.{Found}
-use Rattle.fields.specs.declared.steps.Found.TheVariants.{At, Nowhere}
+use Rattle.answers.specs.Kinds.{number_of}
+use Rattle.answers.specs.declared.refusal.Kind.{Kind}
+use Rattle.answers.specs.declared.refusal.Refusal.{Refusal}
+use Rattle.fields.specs.declared.steps.Field.{Field}
 use Rattle.fields.specs.declared.steps.Layout.{Layout}
 use Rattle.fields.specs.declared.steps.Layout.TheVariants.{Strict, Loose}
-use Rattle.fields.specs.declared.steps.Step.{Step}
-use Rattle.fields.specs.declared.steps.Step.TheVariants.{On, Back}
-use Rattle.fields.specs.declared.steps.Verdict.{Verdict}
-use Rattle.fields.specs.declared.steps.Verdict.TheVariants.{Good, Bad}
+
+-- the verdict on a field's bytes: good, with a value, or bad, with the kind of the refusal
+abbrev pub Verdict : Type 0
+Verdict = Result ℕ Kind
+
+-- reading continues after a field with its value, or the sheet is refused
+abbrev pub Step : Type 0
+Step = Result Field Refusal
 
 abbrev pub itself : ℕ → ℕ
 itself value = value
@@ -23,12 +30,12 @@ nothing value = tt
 
 -- The code's value is a number, and `f` gives its meaning.
 abbrev pub judged_as : {A : Type 0} → (ℕ → A) → Verdict → Judged A
-judged_as f (Good value) = good (f value)
-judged_as f (Bad number) = bad number
+judged_as f (Ok value) = good (f value)
+judged_as f (Err kind) = bad (number_of kind)
 
 -- the verdict of a test
-unfoldable pub tested : Bool → ℕ → ℕ → Verdict
-tested test value number = cond test (Good value) (Bad number)
+unfoldable pub tested : Bool → ℕ → Kind → Verdict
+tested test value kind = cond test (Ok value) (Err kind)
 
 abbrev pub layout_of : Layout → fields.Layout
 layout_of Strict = strict
@@ -41,14 +48,18 @@ judged_field_in layout v due s at = field_in layout (λ _. judged_as itself v) d
 abbrev pub judged_field : Verdict → ℕ → List ℕ → ℕ → Read ℕ
 judged_field v due s at = judged_field_in strict v due s at
 
+-- What was read of the sheet s, by the meaning of its value and the place where reading continues.
+abbrev pub read_as : {R A : Type 0} → (R → A) → (R → ℕ) → List ℕ → Result R Refusal → Read A
+read_as value next s (Ok r) = read (value r) (drop (next r) s) (next r)
+read_as value next s (Err e) = turned_back (number_of e.kind) e.place
+
 -- a step in the sheet s
 abbrev pub step_as : {A : Type 0} → (ℕ → A) → List ℕ → Step → Read A
-step_as f s (On value next) = read (f value) (drop next s) next
-step_as f s (Back number place) = turned_back number place
+step_as f s step = read_as (λ r. f r.value) (λ r. r.next) s step
 
-abbrev pub option_of : Found → Option ℕ
-option_of (At i) = some i
-option_of Nowhere = none
+abbrev pub option_of : Option ℕ → math.Option ℕ
+option_of (Some i) = math.some i
+option_of None = math.none
 
 -- a fixed word, by its bytes
 unfoldable pub spelled : List ℕ → Judge (Unit {0})

@@ -1,6 +1,6 @@
 -- What follows from a field that was read: its value is good, and the next place is after its separator (in a strict sheet directly after it).
 -- Assumes nothing.
-use Rattle.std.specs.Prelude.{◌<◌, ◌≤◌, ◌+◌, ◌-◌, ◌≡◌, ◌&&◌, ◌∷◌}
+use Rattle.std.specs.Prelude.{◌<◌, ◌≤◌, ◌+◌, ◌-◌, ◌≡◌, ◌&&◌, ◌∷◌, Ok}
 use Rattle.laws.specs.Prelude.{ℕ, suc, ◌∙◌, sym, ap, refl, true, false, Bool, and-eq-true_iff, List, [], arith, eqb}
 use Rattle.laws.specs.Prelude.{length, drop, length-append, length-drop}
 use Rattle.std.proofs.Math.Option.{Option, none, some}
@@ -12,9 +12,8 @@ use Rattle.rules.specs.Sheets.Fields.{after_field_in, field_of_in, field, field_
 use Rattle.rules.specs.Sheets.Sheets.{levels_field, inputs_of, inputs_field}
 use Rattle.laws.specs.Lists.Finds.{found_is, first_in_range}
 use Rattle.laws.specs.Lists.Runs.{run_past, spaces_rest, spaces_most}
-use Rattle.fields.specs.Steps.{step_as, itself}
-use Rattle.fields.specs.declared.steps.Step.{Step}
-use Rattle.fields.specs.declared.steps.Step.TheVariants.{On}
+use Rattle.fields.specs.Steps.{Step, step_as, itself}
+use Rattle.fields.specs.declared.steps.Field.{Field}
 
 separator_read : {A : Type 0} (a v : A) (due : ℕ) (t rest : List ℕ) (place next : ℕ)
     → separator a due t place ≡ read v rest next → (v ≡ a) × (next ≡ suc place) × (0 < length t)
@@ -143,21 +142,21 @@ pub record TakenIn {A : Type 0} (judge : Judge A) (a : A) (s : List ℕ) (at nex
   pub beyond : at + length (run (drop at s)) < next
   pub within : next ≤ length s
 
-module _ (s : List ℕ) (step : Step) (at value next : ℕ) (on : step ≡ On value next) where
-  pub field_on : {A : Type 0} (f : ℕ → A) (judge : Judge A) (due : ℕ) → step_as f s step ≡ field judge due (drop at s) at → Taken judge (f value) s at next
+module _ (s : List ℕ) (step : Step) (at : ℕ) (found : Field) (on : step ≡ Ok found) where
+  pub field_on : {A : Type 0} (f : ℕ → A) (judge : Judge A) (due : ℕ) → step_as f s step ≡ field judge due (drop at s) at → Taken judge (f found.value) s at found.next
   field_on f judge due e =
-      let told = taken_field_read judge (f value) due (drop at s) (drop next s) at next (sym e ∙ ap (step_as f s) on) in
+      let told = taken_field_read judge (f found.value) due (drop at s) (drop found.next s) at found.next (sym e ∙ ap (step_as f s) on) in
       record { judged = told.0; ends = told.1; within = omega (arith, told.1, rw length-drop at told.2) }
 
   pub field_on_in : (layout : Layout) {A : Type 0} (f : ℕ → A) (judge : Judge A) (due : ℕ) → step_as f s step ≡ field_in layout judge due (drop at s) at
-      → TakenIn judge (f value) s at next
+      → TakenIn judge (f found.value) s at found.next
   field_on_in layout f judge due e =
-      let told = field_read_in layout judge (f value) due (drop at s) (drop next s) at next (sym e ∙ ap (step_as f s) on) in
+      let told = field_read_in layout judge (f found.value) due (drop at s) (drop found.next s) at found.next (sym e ∙ ap (step_as f s) on) in
       record { judged = told.0; beyond = told.1; within = omega (arith, told.1, rw length-drop at told.2) }
 
-  pub levels_on : (layout : Layout) (due : ℕ) → step_as itself s step ≡ field_in layout levels_field due (drop at s) at → levels_fit value ≡ true
-  levels_on layout due e = levels_told (run (drop at s)) value (field_on_in layout itself levels_field due e).judged
+  pub levels_on : (layout : Layout) (due : ℕ) → step_as itself s step ≡ field_in layout levels_field due (drop at s) at → levels_fit found.value ≡ true
+  levels_on layout due e = levels_told (run (drop at s)) found.value (field_on_in layout itself levels_field due e).judged
 
   pub inputs_on : (layout : Layout) (m due : ℕ) → step_as itself s step ≡ field_in layout (inputs_field m) due (drop at s) at
-      → (fewest_inputs ≤ value) × (value ≤ most_inputs) × (cells_fit_of m value ≡ true)
-  inputs_on layout m due e = inputs_told m value (run (drop at s)) (field_on_in layout itself (inputs_field m) due e).judged
+      → (fewest_inputs ≤ found.value) × (found.value ≤ most_inputs) × (cells_fit_of m found.value ≡ true)
+  inputs_on layout m due e = inputs_told m found.value (run (drop at s)) (field_on_in layout itself (inputs_field m) due e).judged

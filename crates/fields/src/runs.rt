@@ -15,32 +15,25 @@ pub const ZERO: usize = b'0' as usize;
 pub fn field_end(s: &[u8], at: usize) -> usize
     ensures { result ≡ field_end s.now at }
 {
-    let mut end = at;
-    while end < s.len() {
+    for end in at..s.len() {
         let b = s[end];
-        if b == SPACE {
+        if b == SPACE || b == NEWLINE {
             return end;
         }
-        if b == NEWLINE {
-            return end;
-        }
-        end += 1;
     }
-    end
+    at.max(s.len())
 }
 
 // Returns where the spaces at `at` end.
 pub fn spaces_end(s: &[u8], at: usize) -> usize
     ensures { result ≡ spaces_end s.now at }
 {
-    let mut end = at;
-    while end < s.len() {
+    for end in at..s.len() {
         if s[end] != SPACE {
             return end;
         }
-        end += 1;
     }
-    end
+    at.max(s.len())
 }
 
 // Returns the field that starts at `at`: an empty one if the sheet ends before it.

@@ -20,7 +20,7 @@ use Rattle.trees.specs.Groups.Classes.{Few, classes_are_points, class_below, cla
 use Rattle.trees.specs.Filling.DigitRule.{Parts, join_small}
 use Rattle.gate_tables.specs.ClassOrder.{Rises, classes_rising, class_not_above}
 use Rattle.gate_tables.specs.GateDigits.{pass_digits}
-use Rattle.gate_tables.specs.GateRows.{sum_of, NextRow}
+use Rattle.gate_tables.specs.GateRows.{sum_of, RowsDone, LeastRow}
 use Rattle.gate_tables.specs.JoinSums.{sample_sum_own, class_sum}
 use Rattle.gate_tables.specs.Samples.{samples, samples_rise, samples_few}
 use Rattle.gate_tables.specs.Sized.{Sized}
@@ -191,14 +191,14 @@ module _ (m n : ℕ) (cells : List ℕ) (a b : ℕ) (left right : List ℕ) (rea
         (inside_columns _ (class_own j (omega (arith, at.known))).1)
 
     -- all sums are done
-    pub at_end : (r : ℕ) → NextRow left right next r → length left ≤ r → Passed m n f last a b count firsts table
+    pub at_end : RowsDone right next (length left) → Passed m n f last a b count firsts table
     unfolding multiplicity
-    at_end r row end =
+    at_end end =
         record {
           listed = λ _. front;
           digits = λ _. pass_digits m n pos f last a b (sides_parts ready.sides (omega (arith, front.count, at.few))) left right table
               ready.lefts ready.rights
-              ((λ u v u< v<. (at.done u v u< v< (omega (arith, row.none end u u<))).1), (λ u v v< out. at.free u v v< (λ h k _. out h k)));
+              ((λ u v u< v<. (at.done u v u< v< (omega (arith, end u u<))).1), (λ u v v< out. at.free u v v< (λ h k _. out h k)));
           many = λ h. absurd (omega (arith, at.few));
         }
       where
@@ -214,7 +214,7 @@ module _ (m n : ℕ) (cells : List ℕ) (a b : ℕ) (left right : List ℕ) (rea
                   (class_own count h).0,
                   ap class is,
                   (at.done u v
-                      u< v< (omega (arith, row.none end u u<))).0,
+                      u< v< (omega (arith, end u u<))).0,
                 ))
 
         front : Front joint count firsts
@@ -226,7 +226,10 @@ module _ (m n : ℕ) (cells : List ℕ) (a b : ℕ) (left right : List ℕ) (rea
             }
 
     -- a turn
-    module _ (r : ℕ) (row : NextRow left right next r) (r< : r < length left) where
+    module _ (r p : ℕ) (row : LeastRow left right next (length left) r p) where
+      r< : r < length left
+      r< = row.below
+
       abbrev v : ℕ
       v = get_or next r 0
 
@@ -234,7 +237,7 @@ module _ (m n : ℕ) (cells : List ℕ) (a b : ℕ) (left right : List ℕ) (rea
       s = sum_of left right r v
 
       v< : v < length right
-      v< = row.some r<
+      v< = row.some
 
       s_own : part m n (a + b) s ≡ s
       s_own = sum_own r v r< v<
@@ -257,183 +260,185 @@ module _ (m n : ℕ) (cells : List ℕ) (a b : ℕ) (left right : List ℕ) (rea
             flat = omega (arith, here, mul-le-mul_right m sized.levels, sized.levels);
           }
 
-      -- the sum p of the turn
-      module _ (p : ℕ) (is_sum : p ≡ s) where
-        p_own : part m n (a + b) p ≡ p
-        p_own = rw is_sum s_own
+      -- p is the sum of the turn
+      is_sum : p ≡ s
+      is_sum = row.is
 
-        pub sum_within : Within (length cells) columns_of p
-        sum_within = inside_columns p p_own
+      p_own : part m n (a + b) p ≡ p
+      p_own = rw is_sum s_own
 
-        -- it begins a new class: the next in the list
-        module _ (late : count ≤ class p) where
-          here : count < length joint
-          here = omega (arith, in_joint p)
+      pub sum_within : Within (length cells) columns_of p
+      sum_within = inside_columns p p_own
 
-          next_listed : get_or joint count 0 ≡ p
-          next_listed =
-              let (u, w, u<, w<, is) = class_at count here in
-              by u w u< w< is (rising (ℕ_discrete count (class p))) (dec_lt w (get_or next u 0))
-            where
-              rising : Dec (count ≡ class p) → get_or joint count 0 ≤ p
-              rising (yes e) = rw e (class_not_above m n pos f (a + b) joint_below p p_own)
-              rising (no ne) =
-                  omega (
-                    arith,
-                    classes_rising m n pos f (a + b) joint_below count (class p) (omega arith) (in_joint p),
-                    class_not_above m n pos f
-                        (a + b) joint_below p p_own,
-                  )
+      -- it begins a new class: the next in the list
+      module _ (late : count ≤ class p) where
+        here : count < length joint
+        here = omega (arith, in_joint p)
 
-              row_rises : (u w : ℕ) → w < length right → get_or next u 0 ≤ w → get_or right (get_or next u 0) 0 ≤ get_or right w 0
-              row_rises u w w< after = by (ℕ_discrete (get_or next u 0) w)
-                where
-                  by : Dec (get_or next u 0 ≡ w) → get_or right (get_or next u 0) 0 ≤ get_or right w 0
-                  by (yes e) = rw e (omega arith)
-                  by (no ne) = omega (arith, right_rises (get_or next u 0) w (omega arith) w<)
+        next_listed : get_or joint count 0 ≡ p
+        next_listed =
+            let (u, w, u<, w<, is) = class_at count here in
+            by u w u< w< is (rising (ℕ_discrete count (class p))) (dec_lt w (get_or next u 0))
+          where
+            rising : Dec (count ≡ class p) → get_or joint count 0 ≤ p
+            rising (yes e) = rw e (class_not_above m n pos f (a + b) joint_below p p_own)
+            rising (no ne) =
+                omega (
+                  arith,
+                  classes_rising m n pos f (a + b) joint_below count (class p) (omega arith) (in_joint p),
+                  class_not_above m n pos f
+                      (a + b) joint_below p p_own,
+                )
 
-              by : (u w : ℕ) → u < length left → w < length right → get_or joint count 0 ≡ sum_of left right u w → get_or joint count 0 ≤ p → Dec (w < get_or next u 0)
-                  → get_or joint count 0 ≡ p
-              by u w u< w< is up (yes earlier) = absurd
-                  (omega (arith, (class_own count here).0, ap class is, (at.done u w u< w< earlier).0))
-              by u w u< w< is up (no later) =
-                  omega (arith, row.least r< u u< (omega arith), row_rises u w w< (omega arith))
+            row_rises : (u w : ℕ) → w < length right → get_or next u 0 ≤ w → get_or right (get_or next u 0) 0 ≤ get_or right w 0
+            row_rises u w w< after = by (ℕ_discrete (get_or next u 0) w)
+              where
+                by : Dec (get_or next u 0 ≡ w) → get_or right (get_or next u 0) 0 ≤ get_or right w 0
+                by (yes e) = rw e (omega arith)
+                by (no ne) = omega (arith, right_rises (get_or next u 0) w (omega arith) w<)
 
-          next_class : class p ≡ count
-          next_class = ap class (sym next_listed) ∙ (class_own count here).0
+            by : (u w : ℕ) → u < length left → w < length right → get_or joint count 0 ≡ sum_of left right u w → get_or joint count 0 ≤ p → Dec (w < get_or next u 0)
+                → get_or joint count 0 ≡ p
+            by u w u< w< is up (yes earlier) = absurd
+                (omega (arith, (class_own count here).0, ap class is, (at.done u w u< w< earlier).0))
+            by u w u< w< is up (no later) =
+                omega (arith, row.least u u< (omega arith), row_rises u w w< (omega arith))
 
-        -- the class found among those kept
-        module _ (c : ℕ) (found : c ≡ first_place (alike_over f columns_of p) (take count (set firsts count p))) where
-          abbrev kept : List ℕ
-          kept = set firsts count p
+        next_class : class p ≡ count
+        next_class = ap class (sym next_listed) ∙ (class_own count here).0
 
-          same : (j : ℕ) → j < count → get_or kept j 0 ≡ get_or firsts j 0
-          same j h = get_or-set_other firsts count j p 0 (λ e. omega arith)
+      -- the class found among those kept
+      module _ (c : ℕ) (found : c ≡ first_place (alike_over f columns_of p) (take count (set firsts count p))) where
+        abbrev kept : List ℕ
+        kept = set firsts count p
 
-          test : ℕ → Bool
-          test = alike_over f (points m n (others n (a + b))) p
+        same : (j : ℕ) → j < count → get_or kept j 0 ≡ get_or firsts j 0
+        same j h = get_or-set_other firsts count j p 0 (λ e. omega arith)
 
-          test_listed : c ≡ first_place test (take count joint)
-          unfolding test
-          test_listed =
-              let long = length-take-le count kept (omega (arith, length-set firsts count p, sum_facts.room)) in
-              found
-              ∙ ap₂ (λ (us xs : List ℕ). first_place (alike_over f us p) xs) (part_is at.columns)
-              (ext_get_or 0 (take count kept) (take count joint) (long ∙ sym (length-take-le count joint at.known))
-              (λ j h. get_or-take count kept j 0 (omega arith) ∙ same j (omega arith) ∙ at.kept j (omega arith) ∙ sym (get_or-take count joint j 0 (omega arith))))
+        test : ℕ → Bool
+        test = alike_over f (points m n (others n (a + b))) p
 
-          kind_is : class p ≡ first_place test joint
-          unfolding class_number test
-          kind_is = ap (λ (q : ℕ). first_place (alike_over f (points m n (others n (a + b))) q) joint) p_own
+        test_listed : c ≡ first_place test (take count joint)
+        unfolding test
+        test_listed =
+            let long = length-take-le count kept (omega (arith, length-set firsts count p, sum_facts.room)) in
+            found
+            ∙ ap₂ (λ (us xs : List ℕ). first_place (alike_over f us p) xs) (part_is at.columns)
+            (ext_get_or 0 (take count kept) (take count joint) (long ∙ sym (length-take-le count joint at.known))
+            (λ j h. get_or-take count kept j 0 (omega arith) ∙ same j (omega arith) ∙ at.kept j (omega arith) ∙ sym (get_or-take count joint j 0 (omega arith))))
 
-          -- it is the sum's own, whether old or new
-          found_class : c ≡ class p
-          found_class = go (dec_lt (class p) count)
-            where
-              go : Dec (class p < count) → c ≡ class p
-              go (yes old) =
-                  test_listed ∙ sym (search_is test joint count (class p) at.known (omega arith) (λ j h. before_first test 0 joint j (omega
-                  (arith, kind_is)))
-                  (λ h. subst (λ (k : ℕ). test (get_or joint k 0) ≡ true) (sym kind_is) (at_first test 0 joint (omega (arith, kind_is, in_joint p)))))
-              go (no new) =
-                  test_listed
-                  ∙ sym (search_is test joint count count at.known (omega arith) (λ j h. before_first test 0 joint j (omega (arith, kind_is)))
-                  (λ h. absurd (omega arith)))
-                  ∙ sym (next_class (omega arith))
+        kind_is : class p ≡ first_place test joint
+        unfolding class_number test
+        kind_is = ap (λ (q : ℕ). first_place (alike_over f (points m n (others n (a + b))) q) joint) p_own
 
-          -- a class too many turned up
-          pub at_many : m ≤ c → Passed m n f last a b (m + 1) kept table
-          unfolding multiplicity
-          at_many over =
-              record { listed = λ h. absurd (omega arith); digits = λ h. absurd (omega arith); many = λ _. omega (arith, found_class, in_joint p) }
+        -- it is the sum's own, whether old or new
+        found_class : c ≡ class p
+        found_class = go (dec_lt (class p) count)
+          where
+            go : Dec (class p < count) → c ≡ class p
+            go (yes old) =
+                test_listed ∙ sym (search_is test joint count (class p) at.known (omega arith) (λ j h. before_first test 0 joint j (omega
+                (arith, kind_is)))
+                (λ h. subst (λ (k : ℕ). test (get_or joint k 0) ≡ true) (sym kind_is) (at_first test 0 joint (omega (arith, kind_is, in_joint p)))))
+            go (no new) =
+                test_listed
+                ∙ sym (search_is test joint count count at.known (omega arith) (λ j h. before_first test 0 joint j (omega (arith, kind_is)))
+                (λ h. absurd (omega arith)))
+                ∙ sym (next_class (omega arith))
 
-          -- the class is one of m, and what the gate gives is noted
-          pub at_next : c < m → (after : ℕ) → (c < count → after ≡ count) × (count ≤ c → after ≡ c + 1) → (x : ℕ) → x ≡ cond last (f p) c
-              → (next₁ table₁ : List ℕ) → (next₁ ≡ set next r (v + 1)) × (table₁ ≡ set table (r * m + v) x)
-              → AtSum m n cells a b last left right ys other kept table₁ next₁ after
-          unfolding given
-          at_next c< after counted x is_x next₁ table₁ put = rw (put.0, put.1) (go (dec_lt c count))
-            where
-              r_room : r < length next
-              r_room = omega (arith, sum_facts.short, at.for_next)
+        -- a class too many turned up
+        pub at_many : m ≤ c → Passed m n f last a b (m + 1) kept table
+        unfolding multiplicity
+        at_many over =
+            record { listed = λ h. absurd (omega arith); digits = λ h. absurd (omega arith); many = λ _. omega (arith, found_class, in_joint p) }
 
-              given_next : x ≡ given m n f last (a + b) s
-              given_next = is_x ∙ by last ∙ ap (given m n f last (a + b)) is_sum
-                where
-                  by : (t : Bool) → cond t (f p) c ≡ given m n f t (a + b) p
-                  by true = ap f (sym p_own)
-                  by false = found_class
+        -- the class is one of m, and what the gate gives is noted
+        pub at_next : c < m → (after : ℕ) → (c < count → after ≡ count) × (count ≤ c → after ≡ c + 1) → (x : ℕ) → x ≡ cond last (f p) c
+            → (next₁ table₁ : List ℕ) → (next₁ ≡ set next r (v + 1)) × (table₁ ≡ set table (r * m + v) x)
+            → AtSum m n cells a b last left right ys other kept table₁ next₁ after
+        unfolding given
+        at_next c< after counted x is_x next₁ table₁ put = rw (put.0, put.1) (go (dec_lt c count))
+          where
+            r_room : r < length next
+            r_room = omega (arith, sum_facts.short, at.for_next)
 
-              -- another sum has another place
-              elsewhere : (u w : ℕ) → w < m → ((u ≡ r) → (w ≡ v) → ⊥) → (u * m + w ≡ r * m + v → ⊥)
-              elsewhere u w w< differ e =
-                  let v< : v < m = lt_of_lt_of_le v< sides_few.1 in
-                  let row_same : u ≡ r = sym (digits_div u w<) ∙ ap (λ (k : ℕ). k / m) e ∙ digits_div r v< in
-                  differ row_same (sym (digits_mod u w<) ∙ ap (λ (k : ℕ). k % m) e ∙ digits_mod r v<)
+            given_next : x ≡ given m n f last (a + b) s
+            given_next = is_x ∙ by last ∙ ap (given m n f last (a + b)) is_sum
+              where
+                by : (t : Bool) → cond t (f p) c ≡ given m n f t (a + b) p
+                by true = ap f (sym p_own)
+                by false = found_class
 
-              done_now : count ≤ after → c < after → (u w : ℕ) → u < length left → w < length right → w < get_or (set next r (v + 1)) u 0
-                  → (class (sum_of left right u w) < after) × (get_or (set table (r * m + v) x) (u * m + w) 0 ≡ given m n f last (a + b) (sum_of left right u w))
-              done_now more new u w u< w< h = by (ℕ_discrete u r) (ℕ_discrete w v)
-                where
-                  Now : Type 0
-                  Now = (class (sum_of left right u w) < after) × (get_or (set table (r * m + v) x) (u * m + w) 0 ≡ given m n f last (a + b)
-                      (sum_of left right u w))
+            -- another sum has another place
+            elsewhere : (u w : ℕ) → w < m → ((u ≡ r) → (w ≡ v) → ⊥) → (u * m + w ≡ r * m + v → ⊥)
+            elsewhere u w w< differ e =
+                let v< : v < m = lt_of_lt_of_le v< sides_few.1 in
+                let row_same : u ≡ r = sym (digits_div u w<) ∙ ap (λ (k : ℕ). k / m) e ∙ digits_div r v< in
+                differ row_same (sym (digits_mod u w<) ∙ ap (λ (k : ℕ). k % m) e ∙ digits_mod r v<)
 
-                  earlier : ((u ≡ r) → (w ≡ v) → ⊥) → w < get_or next u 0 → Now
-                  earlier differ l =
-                      let before = at.done u w u< w< l in (
-                        omega (arith, before.0),
-                        get_or-set_other table (r * m + v) (u * m + w) x 0
-                            (elsewhere u w (lt_of_lt_of_le w< sides_few.1) differ) ∙ before.1,
-                      )
+            done_now : count ≤ after → c < after → (u w : ℕ) → u < length left → w < length right → w < get_or (set next r (v + 1)) u 0
+                → (class (sum_of left right u w) < after) × (get_or (set table (r * m + v) x) (u * m + w) 0 ≡ given m n f last (a + b) (sum_of left right u w))
+            done_now more new u w u< w< h = by (ℕ_discrete u r) (ℕ_discrete w v)
+              where
+                Now : Type 0
+                Now = (class (sum_of left right u w) < after) × (get_or (set table (r * m + v) x) (u * m + w) 0 ≡ given m n f last (a + b)
+                    (sum_of left right u w))
 
-                  by : Dec (u ≡ r) → Dec (w ≡ v) → Now
-                  by (yes e) (yes d) =
-                      let is : class (sum_of left right u w) ≡ c = ap₂ (λ (i k : ℕ). class (sum_of left right i k)) e d ∙ ap class
-                      (sym is_sum) ∙ sym found_class in
-                      (omega arith, rw (e, d) (get_or-set_same table (r * m + v) x 0 sum_facts.place ∙ given_next))
-                  by (yes e) (no ne) = earlier (λ _ d. ne d) (subst (λ (i : ℕ). w < get_or next i 0) (sym e)
-                      (omega (arith, subst (λ (i : ℕ). w < get_or (set next r (v + 1)) i 0) e h, get_or-set_same next r (v + 1) 0 r_room)))
-                  by (no ne) _ = earlier (λ e _. ne e) (omega (arith, get_or-set_other next r u (v + 1) 0 ne))
+                earlier : ((u ≡ r) → (w ≡ v) → ⊥) → w < get_or next u 0 → Now
+                earlier differ l =
+                    let before = at.done u w u< w< l in (
+                      omega (arith, before.0),
+                      get_or-set_other table (r * m + v) (u * m + w) x 0
+                          (elsewhere u w (lt_of_lt_of_le w< sides_few.1) differ) ∙ before.1,
+                    )
 
-              free_now : (u w : ℕ) → w < m → (u < length left → w < length right → w < get_or (set next r (v + 1)) u 0 → ⊥)
-                  → get_or (set table (r * m + v) x) (u * m + w) 0 ≡ 0
-              free_now u w w< out =
-                  get_or-set_other table (r * m + v) (u * m + w) x 0
-                  (elsewhere u w w< (λ e d. out (rw e r<) (rw d v<) (rw (e, d) (omega (arith, get_or-set_same next r (v + 1) 0 r_room)))))
-                  ∙ at.free u w w< (λ u< w< l. by u< w< l (ℕ_discrete u r))
-                where
-                  by : u < length left → w < length right → w < get_or next u 0 → Dec (u ≡ r) → ⊥
-                  by u< w< l (yes e) =
-                      out u< w< (rw e (omega (arith, subst (λ (i : ℕ). w < get_or next i 0) e l, get_or-set_same next r (v + 1) 0 r_room)))
-                  by u< w< l (no ne) = out u< w< (omega (arith, get_or-set_other next r u (v + 1) 0 ne))
+                by : Dec (u ≡ r) → Dec (w ≡ v) → Now
+                by (yes e) (yes d) =
+                    let is : class (sum_of left right u w) ≡ c = ap₂ (λ (i k : ℕ). class (sum_of left right i k)) e d ∙ ap class
+                    (sym is_sum) ∙ sym found_class in
+                    (omega arith, rw (e, d) (get_or-set_same table (r * m + v) x 0 sum_facts.place ∙ given_next))
+                by (yes e) (no ne) = earlier (λ _ d. ne d) (subst (λ (i : ℕ). w < get_or next i 0) (sym e)
+                    (omega (arith, subst (λ (i : ℕ). w < get_or (set next r (v + 1)) i 0) e h, get_or-set_same next r (v + 1) 0 r_room)))
+                by (no ne) _ = earlier (λ e _. ne e) (omega (arith, get_or-set_other next r u (v + 1) 0 ne))
 
-              kept_now : (j : ℕ) → j < count + 1 → count ≤ class p → Dec (j ≡ count) → get_or kept j 0 ≡ get_or joint j 0
-              kept_now j h late (yes e) = rw e (get_or-set_same firsts count p 0 sum_facts.room ∙ sym (next_listed late))
-              kept_now j h late (no ne) = same j (omega arith) ∙ at.kept j (omega arith)
+            free_now : (u w : ℕ) → w < m → (u < length left → w < length right → w < get_or (set next r (v + 1)) u 0 → ⊥)
+                → get_or (set table (r * m + v) x) (u * m + w) 0 ≡ 0
+            free_now u w w< out =
+                get_or-set_other table (r * m + v) (u * m + w) x 0
+                (elsewhere u w w< (λ e d. out (rw e r<) (rw d v<) (rw (e, d) (omega (arith, get_or-set_same next r (v + 1) 0 r_room)))))
+                ∙ at.free u w w< (λ u< w< l. by u< w< l (ℕ_discrete u r))
+              where
+                by : u < length left → w < length right → w < get_or next u 0 → Dec (u ≡ r) → ⊥
+                by u< w< l (yes e) =
+                    out u< w< (rw e (omega (arith, subst (λ (i : ℕ). w < get_or next i 0) e l, get_or-set_same next r (v + 1) 0 r_room)))
+                by u< w< l (no ne) = out u< w< (omega (arith, get_or-set_other next r u (v + 1) 0 ne))
 
-              step : after ≤ m → after ≤ length joint → ((j : ℕ) → j < after → get_or kept j 0 ≡ get_or joint j 0) → count ≤ after → c < after
-                  → AtSum m n cells a b last left right ys other kept (set table (r * m + v) x) (set next r (v + 1)) after
-              step few known kept more new =
-                  record {
-                    columns = at.columns;
-                    for_firsts = omega (arith, length-set firsts count p, at.for_firsts);
-                    for_table = omega (arith, length-set table (r * m + v) x, at.for_table);
-                    for_next = length-set next r (v + 1) ∙ at.for_next;
-                    few = few;
-                    known = known;
-                    kept = kept;
-                    done = done_now more new;
-                    free = free_now;
-                  }
+            kept_now : (j : ℕ) → j < count + 1 → count ≤ class p → Dec (j ≡ count) → get_or kept j 0 ≡ get_or joint j 0
+            kept_now j h late (yes e) = rw e (get_or-set_same firsts count p 0 sum_facts.room ∙ sym (next_listed late))
+            kept_now j h late (no ne) = same j (omega arith) ∙ at.kept j (omega arith)
 
-              go : Dec (c < count) → AtSum m n cells a b last left right ys other kept (set table (r * m + v) x) (set next r (v + 1)) after
-              go (yes h) =
-                  let is = counted.0 h in
-                  step (omega (arith, at.few)) (omega (arith, at.known)) (λ j l. same j (omega arith) ∙ at.kept j (omega arith)) (omega arith) (omega arith)
-              go (no h) =
-                  let is = counted.1 (omega arith) in
-                  let late : count ≤ class p = omega (arith, found_class) in
-                  let place : c ≡ count = found_class ∙ next_class late in
-                  step (omega arith) (omega (arith, found_class, in_joint p)) (λ j l. kept_now j (omega arith) late (ℕ_discrete j count)) (omega arith)
-                  (omega arith)
+            step : after ≤ m → after ≤ length joint → ((j : ℕ) → j < after → get_or kept j 0 ≡ get_or joint j 0) → count ≤ after → c < after
+                → AtSum m n cells a b last left right ys other kept (set table (r * m + v) x) (set next r (v + 1)) after
+            step few known kept more new =
+                record {
+                  columns = at.columns;
+                  for_firsts = omega (arith, length-set firsts count p, at.for_firsts);
+                  for_table = omega (arith, length-set table (r * m + v) x, at.for_table);
+                  for_next = length-set next r (v + 1) ∙ at.for_next;
+                  few = few;
+                  known = known;
+                  kept = kept;
+                  done = done_now more new;
+                  free = free_now;
+                }
+
+            go : Dec (c < count) → AtSum m n cells a b last left right ys other kept (set table (r * m + v) x) (set next r (v + 1)) after
+            go (yes h) =
+                let is = counted.0 h in
+                step (omega (arith, at.few)) (omega (arith, at.known)) (λ j l. same j (omega arith) ∙ at.kept j (omega arith)) (omega arith) (omega arith)
+            go (no h) =
+                let is = counted.1 (omega arith) in
+                let late : count ≤ class p = omega (arith, found_class) in
+                let place : c ≡ count = found_class ∙ next_class late in
+                step (omega arith) (omega (arith, found_class, in_joint p)) (λ j l. kept_now j (omega arith) late (ℕ_discrete j count)) (omega arith)
+                (omega arith)

@@ -1,7 +1,7 @@
 -- A net with one more gate.
 -- Assumes nothing.
 use Rattle.std.specs.Prelude.{◌<◌, ◌≤◌, ◌+◌, ◌*◌, ◌≡◌, ◌∷◌, ◌++◌}
-use Rattle.laws.specs.Prelude.{ℕ, ◌∙◌, sym, ap, refl, subst, Bool, List, [], arith, length, get_or, take, drop}
+use Rattle.laws.specs.Prelude.{ℕ, ◌∙◌, sym, ap, refl, Bool, List, [], arith, length, get_or, take, drop}
 use Rattle.laws.specs.Prelude.{length-take-le, get_or-take, ext_get_or, paste}
 use Rattle.rules.specs.Nets.Filling.{gate_digits}
 use Rattle.nets.specs.declared.forms.Net.{Net}

@@ -14,6 +14,7 @@ use Rattle.rules.specs.Nets.Leaves.{leaves_of}
 use Rattle.rules.specs.Nets.Settled.{split_of, settled_wiring, settled_gates}
 use Rattle.rules.specs.Nets.Shallow.{shallow_wiring, shallow_gates}
 use Rattle.rules.specs.Sheets.SheetRules.{IsNet}
+use Rattle.rules.specs.Calls.Answers.{ink_in}
 use Rattle.radix.specs.Parts.{inside_part}
 use Rattle.nets.specs.declared.forms.Net.{Net}
 use Rattle.nets.specs.Forms.{gates_of}
@@ -88,6 +89,12 @@ module _ (m n : ℕ) (f : ℕ → ℕ) (fit : size_fits m n ≡ true) (tree : ru
 pub record MarksIn (m n : ℕ) (f : ℕ → ℕ) (marks : List ℕ) : Type 0 where
   pub room : 2 ^ n ≤ length marks
   pub same : (g : ℕ) → g < 2 ^ n → mark_in marks g ≡ mark_in (marks_of m n f) g
+
+-- a table that has a tree, so the whole group has mark 2: its cells, with its marks in an array and the group of its leaves
+abbrev pub WithTree : ℕ → ℕ → List ℕ → List ℕ → ℕ → Type 0
+WithTree m n cells marks leaves =
+    (size_fits m n ≡ true) × (m ^ n ≤ length cells) × ((p : ℕ) → p < m ^ n → ink_in cells p < m) × MarksIn m n (ink_in cells) marks
+    × (mark_in (marks_of m n (ink_in cells)) (whole_group n) ≡ 2) × (leaves ≡ leaves_of m n (ink_in cells))
 
 -- as after marking
 pub marks_in : (m n : ℕ) (f : ℕ → ℕ) (marks : List ℕ) → take (2 ^ n) marks ≡ marks_of m n f → 2 ^ n ≤ length marks → MarksIn m n f marks

@@ -1,6 +1,7 @@
 // A wiring filled by the class rule, in its own line order and with its own sides.
 ghost use Rattle.std.specs.Prelude.{◌≡◌, ◌+◌, ◌*◌, ◌^◌, ◌≤◌, ◌<◌, length};
 ghost use Rattle.std.proofs.Math.Seq.{paste};
+ghost use Rattle.rules.specs.Limits.{most_cells};
 ghost use Rattle.rules.specs.Nets.Filling.{input_groups};
 ghost use Rattle.rules.specs.Calls.Answers.{ink_in};
 ghost use Rattle.trees.specs.Filling.Fillings.{Fillable};
@@ -23,38 +24,18 @@ const MOST_TABLE: usize = limits::MOST_LEVELS * limits::MOST_LEVELS;
 // The most cells of a small table: for these, clearing a large work array takes longer than filling.
 const FEW_CELLS: usize = 256;
 
-// Writes the first `count` digits of `table` from `at` on.
-fn write_table(table: &[u8], count: usize, at: usize, digits: &mut [u8])
-    requires { (count ≤ length table.now) × (at + count ≤ length digits.old) }
-    ensures { digits.new ≡ paste digits.old at table.now count }
-{
-    let mut k: usize = 0;
-    while k < count {
-        digits[at + k] = table[k];
-        k += 1;
-    }
-}
-
 // Returns the net with one more gate: its references, and its digits at the front of `table`.
-fn join(m: usize, left: u8, right: u8, table: &[u8], net: forms::Net) -> forms::Net
+fn join(m: usize, left: u8, right: u8, table: &[u8], mut net: forms::Net) -> forms::Net
     requires { (m * m ≤ length table.now) × (net.gates < most_gates) × ((net.gates + 1) * (m * m) ≤ most_digits) }
     ensures { JoinedBy m left right table.now net result }
 {
     let k = net.gates;
-    let mut lefts = net.left;
-    let mut rights = net.right;
-    let mut digits = net.digits;
-    lefts[k] = left;
-    rights[k] = right;
-    write_table(table, m * m, k * (m * m), &mut digits);
-    forms::Net {
-        levels: net.levels,
-        inputs: net.inputs,
-        gates: k + 1,
-        left: lefts,
-        right: rights,
-        digits: digits,
-    }
+    let at = k * (m * m);
+    net.gates += 1;
+    net.left[k] = left;
+    net.right[k] = right;
+    net.digits[at..at + m * m].copy_from_slice(&table[..m * m]);
+    net
 }
 
 // Does what `fill_while_few` does. `ys` is a work array with a place for each cell.
@@ -63,16 +44,12 @@ fn fill_gates(m: usize, n: usize, cells: &[u8], wiring: links::Wiring, ys: &mut 
         × (Fillable m n (λ _. 0) (input_groups n) (links_in wiring)) }
     ensures { FilledTo m n (ink_in cells.now) wiring result }
 {
-    let lefts = wiring.left;
-    let rights = wiring.right;
-    let count = wiring.gates;
     let mut wires = [0u16; ALL_ROWS];
     samples::input_wires(m, n, &mut wires);
     let mut net = forms::no_gates(m, n);
-    let mut k: usize = 0;
-    while k < count {
-        let left = lefts[k];
-        let right = rights[k];
+    for k in 0..wiring.gates {
+        let left = wiring.left[k];
+        let right = wiring.right[k];
         let mut firsts = [0u16; limits::MOST_LEVELS + 1];
         let mut table = [0u8; MOST_TABLE];
         let classes = gate_pass::gate_classes(
@@ -82,7 +59,7 @@ fn fill_gates(m: usize, n: usize, cells: &[u8], wiring: links::Wiring, ys: &mut 
             &wires,
             left,
             right,
-            k + 1 == count,
+            k + 1 == wiring.gates,
             ys,
             &mut firsts,
             &mut table,
@@ -93,26 +70,22 @@ fn fill_gates(m: usize, n: usize, cells: &[u8], wiring: links::Wiring, ys: &mut 
         net = join(m, left, right, &table, net);
         let group = samples::group_of(&wires, left) + samples::group_of(&wires, right);
         samples::put_row(n + k, group, &firsts, classes, &mut wires);
-        k += 1;
     }
     net
 }
 
-// Does what `fill_while_few` does, in a small table.
-fn fill_small(m: usize, n: usize, cells: &[u8], wiring: links::Wiring) -> forms::Net
-    requires { (Sized m n cells.now) × (wiring.gates < n) × (m ^ n ≤ 256) × (Fillable m n (λ _. 0) (input_groups n) (links_in wiring)) }
+// Does what `fill_while_few` does, in a table of at most CELLS cells.
+fn fill_up_to<const CELLS: usize>(
+    m: usize,
+    n: usize,
+    cells: &[u8],
+    wiring: links::Wiring,
+) -> forms::Net
+    requires { (Sized m n cells.now) × (wiring.gates < n) × (m ^ n ≤ CELLS) × (CELLS ≤ most_cells)
+        × (Fillable m n (λ _. 0) (input_groups n) (links_in wiring)) }
     ensures { FilledTo m n (ink_in cells.now) wiring result }
 {
-    let mut ys = [0u16; FEW_CELLS];
-    fill_gates(m, n, cells, wiring, &mut ys)
-}
-
-// Does what `fill_while_few` does, in any table.
-fn fill_large(m: usize, n: usize, cells: &[u8], wiring: links::Wiring) -> forms::Net
-    requires { (Sized m n cells.now) × (wiring.gates < n) × (Fillable m n (λ _. 0) (input_groups n) (links_in wiring)) }
-    ensures { FilledTo m n (ink_in cells.now) wiring result }
-{
-    let mut ys = [0u16; limits::MOST_CELLS];
+    let mut ys = [0u16; CELLS];
     fill_gates(m, n, cells, wiring, &mut ys)
 }
 
@@ -122,10 +95,11 @@ pub fn fill_while_few(m: usize, n: usize, cells: &[u8], wiring: links::Wiring) -
     requires { (Sized m n cells.now) × (wiring.gates < n) × (Fillable m n (λ _. 0) (input_groups n) (links_in wiring)) }
     ensures { FilledTo m n (ink_in cells.now) wiring result }
 {
-    if FEW_CELLS < powers::power(m, n) {
-        return fill_large(m, n, cells, wiring);
+    if powers::power(m, n) <= FEW_CELLS {
+        fill_up_to::<FEW_CELLS>(m, n, cells, wiring)
+    } else {
+        fill_up_to::<{ limits::MOST_CELLS }>(m, n, cells, wiring)
     }
-    fill_small(m, n, cells, wiring)
 }
 
 // Returns the net of a wiring whose gates' groups have at most m classes.

@@ -3,7 +3,7 @@
 ghost use Rattle.std.specs.Prelude.{◌≡◌, cond, ◌+◌, ◌*◌, ◌≤◌, ◌<◌, length, get_or, set};
 ghost use Rattle.rules.specs.Limits.{most_levels};
 ghost use Rattle.rules.specs.Calls.Answers.{ink_in};
-ghost use Rattle.gate_tables.specs.GateRows.{NextSum, NextRow};
+ghost use Rattle.gate_tables.specs.GateRows.{NextSum, LeastTo};
 ghost use Rattle.gate_tables.specs.Store.{group_at_of, size_at, samples_at};
 ghost use Rattle.gate_tables.specs.GatePass.{PassReady, PassRoom, Passed};
 
@@ -11,38 +11,30 @@ use crate::samples;
 use classes::alike;
 use radix::{limits, offsets};
 
-// More than any sum of two samples.
-const NO_SUM: usize = 131072;
-
-// Returns the sum of left's sample u and right's sample v, or NO_SUM if there is no such v.
-fn next_sum(left: &[u16], right: &[u16], u: usize, v: usize) -> usize
+// Returns the sum of left's sample u and right's sample v, if there is such a v.
+fn next_sum(left: &[u16], right: &[u16], u: usize, v: usize) -> Option<usize>
     requires { u < length left.now }
     ensures { NextSum left.now right.now u v result }
 {
     if v < right.len() {
-        left[u] as usize + right[v] as usize
+        Some(left[u] as usize + right[v] as usize)
     } else {
-        NO_SUM
+        None
     }
 }
 
-// Returns the sample of the left whose next sum is least, or the number of its samples if all sums are done. `next` has the number of sums done with
+// Returns the sample of the left whose next sum is least, and that sum, or `None` if all sums are done. `next` has the number of sums done with
 // each of them.
-fn next_row(left: &[u16], right: &[u16], next: &[u8]) -> usize
+fn least_sum(left: &[u16], right: &[u16], next: &[u8]) -> Option<(usize, usize)>
     requires { length left.now ≤ length next.now }
-    ensures { NextRow left.now right.now next.now result }
+    ensures { LeastTo left.now right.now next.now (length left.now) result }
 {
-    let mut best = left.len();
-    let mut least: usize = NO_SUM;
-    let mut u: usize = 0;
-    while u < left.len() {
-        let sum = next_sum(left, right, u, next[u] as usize);
-        if sum < least {
-            best = u;
-            least = sum;
-            u += 1;
-        } else {
-            u += 1;
+    let mut best: Option<(usize, usize)> = None;
+    for u in 0..left.len() {
+        if let Some(sum) = next_sum(left, right, u, next[u] as usize) {
+            if best.is_none_or(|(_, least)| sum < least) {
+                best = Some((u, sum));
+            }
         }
     }
     best
@@ -67,14 +59,6 @@ fn put_digit(m: usize, u: usize, x: u8, next: &mut [u8], table: &mut [u8])
     next[u] = (v + 1) as u8;
 }
 
-// Returns how many classes are known after a sum of this class, if `count` were known before.
-fn counted(count: usize, class: usize) -> usize
-    requires { class < 256 }
-    ensures { ((class < count) → result ≡ count) × ((count ≤ class) → result ≡ class + 1) }
-{
-    if class < count { count } else { class + 1 }
-}
-
 // Writes the first of each class of the joint group to the front of `firsts` and the gate's digits to the front of `table`, and returns the number of
 // classes; or returns m + 1 as soon as there are more than m. `ys` is a work array.
 pub fn sum_classes(
@@ -96,20 +80,16 @@ pub fn sum_classes(
     let other = offsets::other_offsets(m, n, a + b, ys);
     let mut next = [0u8; limits::MOST_LEVELS];
     let mut count: usize = 0;
-    loop {
-        let u = next_row(left, right, &next);
-        if left.len() <= u {
-            return count;
-        }
-        let p = next_sum(left, right, u, next[u] as usize);
+    while let Some((u, p)) = least_sum(left, right, &next) {
         firsts[count] = p as u16;
         let class = alike::class_of(cells, &ys[0..other], firsts, count, p);
         if m <= class {
             return m + 1;
         }
         put_digit(m, u, given(cells, last, class, p), &mut next, table);
-        count = counted(count, class);
+        count = count.max(class + 1);
     }
+    count
 }
 
 // Does what `sum_classes` does, for two wires.

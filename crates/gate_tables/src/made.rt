@@ -1,11 +1,6 @@
 // The net made from a table, by either choice.
-ghost use Rattle.std.specs.Prelude.{◌≡◌, true, ℕ, ◌^◌, ◌≤◌, ◌<◌, length};
-ghost use Rattle.rules.specs.Limits.{size_fits};
-ghost use Rattle.rules.specs.Groups.Groups.{whole_group};
-ghost use Rattle.rules.specs.Groups.Marks.{mark_in, marks_of};
-ghost use Rattle.rules.specs.Nets.Leaves.{leaves_of};
 ghost use Rattle.rules.specs.Calls.Answers.{ink_in};
-ghost use Rattle.gate_tables.specs.MadeNet.{MarksIn, MadeNet};
+ghost use Rattle.gate_tables.specs.MadeNet.{MadeNet, WithTree};
 
 use crate::{settled, shallow};
 use nets::forms;
@@ -20,9 +15,7 @@ pub fn made_net(
     marks: &[u8],
     leaves: usize,
 ) -> forms::Net
-    requires { (size_fits m n ≡ true) × (m ^ n ≤ length cells.now) × ((p : ℕ) → p < m ^ n → ink_in cells.now p < m)
-        × (MarksIn m n (ink_in cells.now) marks.now) × (mark_in (marks_of m n (ink_in cells.now)) (whole_group n) ≡ 2)
-        × (leaves ≡ leaves_of m n (ink_in cells.now)) }
+    requires { WithTree m n cells.now marks.now leaves }
     ensures { MadeNet choice m n (ink_in cells.now) result }
 {
     match choice {

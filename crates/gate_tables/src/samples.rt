@@ -36,11 +36,7 @@ pub fn put_row(r: usize, group: u16, from: &[u16], count: usize, wires: &mut [u1
     let at = r * ROW;
     wires[at] = group;
     wires[at + 1] = count as u16;
-    let mut i: usize = 0;
-    while i < count {
-        wires[at + 2 + i] = from[i];
-        i += 1;
-    }
+    wires[at + 2..at + 2 + count].copy_from_slice(&from[..count]);
 }
 
 // Writes the assignments of an input of weight w, one for each level.
@@ -48,10 +44,8 @@ fn level_points(m: usize, w: usize, out: &mut [u16])
     requires { (m ≤ length out.old) × (m * w < 65536) }
     ensures { PutAt (λ l. l * w) 0 m out.old out.new }
 {
-    let mut l: usize = 0;
-    while l < m {
+    for l in 0..m {
         out[l] = (l * w) as u16;
-        l += 1;
     }
 }
 
@@ -60,11 +54,9 @@ pub fn input_wires(m: usize, n: usize, wires: &mut [u16])
     requires { (0 < m) × (m ≤ most_levels) × (n ≤ most_inputs) × (m ^ n ≤ most_cells) × (n * 11 ≤ length wires.old) }
     ensures { (f : ℕ → ℕ) → WireRows m n f (input_groups n) n wires.new }
 {
-    let mut i: usize = 0;
-    while i < n {
+    for i in 0..n {
         let mut points = [0u16; limits::MOST_LEVELS];
         level_points(m, powers::power(m, n - 1 - i), &mut points);
         put_row(i, powers::power(2, i) as u16, &points, m, wires);
-        i += 1;
     }
 }

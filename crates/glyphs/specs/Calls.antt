@@ -1,13 +1,13 @@
 -- The glyph call: its answer, and the outcome for an accepted sheet.
 -- Assumes nothing.
 use Rattle.laws.specs.Prelude.{ℕ, ◌∙◌, sym, ap, true, false, List, mul-le-mul, length}
-use Rattle.std.specs.Prelude.{ℤ, ◌<◌, ◌≤◌, ◌*◌, ◌≡◌}
+use Rattle.std.specs.Prelude.{ℤ, ◌<◌, ◌≤◌, ◌*◌, ◌≡◌, Result}
 use Rattle.rules.specs.Calls.Answers.{accepted, refused, written}
 use Rattle.rules.specs.Calls.TableWriting.{Written}
 use Rattle.rules.specs.Calls.Glyphs.{most_side, new_cell, glyph, picture_fits, offsets_fit, glyph_call}
 use Rattle.laws.specs.Calls.Glyphs.{picture_fits_lem, offsets_fit_lem, glyph_24, glyph_25, glyph_15, glyph_printed}
 use Rattle.answers.specs.AnswerMaps.{answer_of}
-use Rattle.answers.specs.declared.answer.Answer.{Answer}
+use Rattle.answers.specs.declared.refusal.Refusal.{Refusal}
 use Rattle.nets.specs.declared.forms.Header.{Header}
 use Rattle.nets.specs.declared.forms.Net.{Net}
 use Rattle.nets.specs.Forms.{header_of, gates_of, net_in}
@@ -15,7 +15,7 @@ use Rattle.accepted.specs.Taken.{NetTaken, sound}
 use Rattle.glyphs.specs.Glyph.{GlyphReady, glyph_by, glyph_of}
 
 -- the answer, and the output after the call
-abbrev pub written_of : Answer → List ℕ → Written
+abbrev pub written_of : Result ℕ Refusal → List ℕ → Written
 written_of r output = record { answer = answer_of r; output = output }
 
 module _ (s : List ℕ) (h : Header) (net : Net) (taken : NetTaken s h net) (width height : ℕ) (picture : List ℕ) (offsets : List ℤ) (out : List ℕ) where

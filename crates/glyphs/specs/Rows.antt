@@ -31,30 +31,28 @@ pub record RowsReady (wires : List ℕ) (start width rows first : ℕ) (out : Li
   pub room : first + rows * width ≤ length out
 
 -- the first y rows are written
-pub record RowsDone (wires : List ℕ) (start width rows first : ℕ) (before : List ℕ) (y from at : ℕ) (out : List ℕ) : Type 0 where
-  pub low : y ≤ rows
-  pub from_is : from ≡ start + y * span_of width
-  pub at_is : at ≡ first + y * width
+pub record RowsDone (wires : List ℕ) (start width first : ℕ) (before : List ℕ) (y : ℕ) (out : List ℕ) : Type 0 where
   pub count : length (rows_from wires start width y) ≡ y * width
   pub text : out ≡ sets before first (rows_from wires start width y)
 
-pub rows_none : (wires : List ℕ) (start width rows first : ℕ) (before : List ℕ) → RowsDone wires start width rows first before 0 start first before
+pub rows_none : (wires : List ℕ) (start width first : ℕ) (before : List ℕ) → RowsDone wires start width first before 0 before
 unfolding range concat_map
-rows_none wires start width rows first before =
-    let none = zero-mul width in
-    record { low = omega arith; from_is = omega (arith, zero-mul (span_of width)); at_is = omega (arith, none); count = sym none; text = refl }
+rows_none wires start width first before = record { count = sym (zero-mul width); text = refl }
 
 module _ {wires : List ℕ} {start width rows first : ℕ} {before : List ℕ} (ready : RowsReady wires start width rows first before)
-    {y from at : ℕ} {out : List ℕ} (done : RowsDone wires start width rows first before y from at out) where
+    {y : ℕ} {out : List ℕ} (done : RowsDone wires start width first before y out) where
   pub rows_length : length out ≡ length before
   rows_length = ap length done.text ∙ length-sets before first (rows_from wires start width y)
 
   module _ (turn : y < rows) where
-    pub glyph_row_there : from + span_of width ≤ length wires
-    glyph_row_there = omega (arith, done.from_is, ready.there, row_below y rows (span_of width) turn)
+    abbrev from : ℕ
+    from = start + y * span_of width
 
-    pub row_fits : at + width ≤ length out
-    row_fits = omega (arith, done.at_is, rows_length, ready.room, row_below y rows width turn)
+    pub glyph_row_there : from + span_of width ≤ length wires
+    glyph_row_there = omega (arith, ready.there, row_below y rows (span_of width) turn)
+
+    pub row_fits : first + y * width + width ≤ length out
+    row_fits = omega (arith, rows_length, ready.room, row_below y rows width turn)
 
     module _ {text : List ℕ} (is : text ≡ take width (drop from wires)) where
       pub row_length : length text ≡ width
@@ -65,20 +63,14 @@ module _ {wires : List ℕ} {start width rows first : ℕ} {before : List ℕ} (
       more_rows =
           rw (add-one, range_suc, concat_append)
           (ap (λ (r : List ℕ). rows_from wires start width y ++ r)
-          (append-nil (row_at wires start width (0 + y)) ∙ (λ i. take width (drop (start + zero-add y i * span_of width) wires))
-          ∙ sym (is ∙ ap (λ (k : ℕ). take width (drop k wires)) done.from_is)))
+          (append-nil (row_at wires start width (0 + y)) ∙ (λ i. take width (drop (start + zero-add y i * span_of width) wires)) ∙ sym is))
 
-      pub rows_more : (then : List ℕ) → then ≡ sets out at text
-          → RowsDone wires start width rows first before (y + 1) (from + span_of width) (at + width) then
+      pub rows_more : (then : List ℕ) → then ≡ sets out (first + y * width) text → RowsDone wires start width first before (y + 1) then
       rows_more then e =
-          let next : (k : ℕ) → (y + 1) * k ≡ y * k + k = λ k. rw (add-one, suc-mul) in
           let done_rows = rows_from wires start width y in
-          let place : at ≡ first + length done_rows = omega (arith, done.at_is, done.count) in
+          let place : first + y * width ≡ first + length done_rows = omega (arith, done.count) in
           record {
-            low = omega arith;
-            from_is = omega (arith, done.from_is, next (span_of width));
-            at_is = omega (arith, done.at_is, next width);
-            count = rw more_rows (omega (arith, next width, length-append done_rows text, done.count, row_length));
+            count = rw (more_rows, add-one, suc-mul) (omega (arith, length-append done_rows text, done.count, row_length));
             text = e ∙ ap₂ (λ (l : List ℕ) (k : ℕ). sets l k text) done.text place ∙ sym (sets_append done_rows text before first)
                 ∙ ap (sets before first) (sym more_rows);
           }

@@ -7,8 +7,7 @@ ghost use Rattle.glyphs.specs.Calls.{written_of};
 use crate::offsets::offsets_fit;
 use crate::picture::picture_fits;
 use crate::print::print_glyph;
-use answers::answer::Answer;
-use answers::outcome::Outcome;
+use answers::refusal::{Kind, Refusal};
 use net_sheets::reader::net::read_net;
 use nets::forms::{Header, Net};
 
@@ -22,32 +21,32 @@ fn print_accepted(
     picture: &[u8],
     offsets: &[i8],
     out: &mut [u8],
-) -> Answer
+) -> Result<usize, Refusal>
     requires { NetTaken sheet.now header net }
     ensures { written_of result out.new ≡ glyph_call sheet.now width height picture.now offsets.now
         out.old }
 {
     if !picture_fits(net.levels, width, height, picture) {
-        return Answer::Refused {
-            number: 24,
+        return Err(Refusal {
+            kind: Kind::Picture,
             place: 0,
-        };
+        });
     }
     if !offsets_fit(net.inputs, offsets) {
-        return Answer::Refused {
-            number: 25,
+        return Err(Refusal {
+            kind: Kind::Offsets,
             place: 0,
-        };
+        });
     }
     let need = width * height;
     if out.len() < need {
-        return Answer::Refused {
-            number: 15,
+        return Err(Refusal {
+            kind: Kind::OutputShort,
             place: need,
-        };
+        });
     }
     print_glyph(net, width, height, picture, offsets, out);
-    Answer::Accepted(need)
+    Ok(need)
 }
 
 // Writes the glyph that a net sheet prints from a picture of `width` times `height` cells to the front of `out`, and returns how many cells it has.
@@ -59,18 +58,19 @@ pub fn glyph(
     picture: &[u8],
     offsets: &[i8],
     out: &mut [u8],
-) -> Answer
+) -> Result<usize, Refusal>
     ensures { written_of result out.new ≡ glyph_call sheet.now width height picture.now offsets.now
         out.old }
 {
-    let read = read_net(sheet);
-    let outcome = read.outcome;
-    let header = read.header;
-    let net = read.net;
-    match outcome {
-        Outcome::Refused { number, place } => Answer::Refused { number, place },
-        Outcome::Accepted => print_accepted(
-            sheet, header, net, width, height, picture, offsets, out,
-        ),
-    }
+    let read = read_net(sheet)?;
+    print_accepted(
+        sheet,
+        read.header,
+        read.net,
+        width,
+        height,
+        picture,
+        offsets,
+        out,
+    )
 }

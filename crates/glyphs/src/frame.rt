@@ -13,15 +13,12 @@ pub fn frame(picture: &[u8], width: usize, height: usize, wires: &mut [u8])
     ensures { GlyphFramed width height picture.now wires.new }
 {
     let span = width + BORDER;
-    let mut from: usize = 0;
-    let mut y: usize = 0;
-    while y < height {
+    for y in 0..height {
+        let from = y * width;
         copy(
             &picture[from..from + width],
             wires,
             (y + MOST_OFFSET) * span + MOST_OFFSET,
         );
-        from += width;
-        y += 1;
     }
 }

@@ -10,10 +10,7 @@ use cells::bound::first_at_least;
 fn side_fits(side: usize) -> bool
     ensures { result ≡ side_fits side }
 {
-    if side < 1 {
-        return false;
-    }
-    side <= MOST_SIDE
+    (1..=MOST_SIDE).contains(&side)
 }
 
 // Returns whether a picture has allowed sides, one cell for each place, and levels below m. Checks the sides before it multiplies them.
@@ -21,14 +18,8 @@ pub fn picture_fits(m: usize, width: usize, height: usize, picture: &[u8]) -> bo
     requires { m ≤ most_levels }
     ensures { result ≡ picture_fits m width height picture.now }
 {
-    if !side_fits(width) {
+    if !side_fits(width) || !side_fits(height) {
         return false;
     }
-    if !side_fits(height) {
-        return false;
-    }
-    if picture.len() != width * height {
-        return false;
-    }
-    first_at_least(m, picture) == picture.len()
+    picture.len() == width * height && first_at_least(m, picture) == picture.len()
 }

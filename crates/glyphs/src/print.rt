@@ -1,8 +1,8 @@
 // Prints the new picture many rows at once: frames the picture, computes the net's value at every place, and copies the rows of these.
-ghost use Rattle.std.specs.Prelude.{◌≡◌, ◌≤◌};
+ghost use Rattle.std.specs.Prelude.{◌≡◌, ◌<◌, replicate};
 ghost use Rattle.rules.specs.Calls.Answers.{written};
 ghost use Rattle.glyphs.specs.Glyph.{GlyphReady, glyph_of};
-ghost use Rattle.glyphs.specs.Strips.{few_side, StripReady, StripDone, HalvesReady};
+ghost use Rattle.glyphs.specs.Strips.{StripReady, StripDone, HalvesReady};
 
 use crate::frame::frame;
 use crate::limits::{BORDER, FEW_GATES, FEW_SIDE, FEW_VALUES, FRAME_LINES, MOST_VALUES};
@@ -59,47 +59,26 @@ fn print_halves(
     print_strip(net, width, height, top, height - top, offsets, wires, out);
 }
 
-// Prints the new picture with room for a small one: clearing more takes longer than printing it.
-fn print_small(
+// Does the same with `CELLS` cells to work in.
+fn print_in<const CELLS: usize>(
     net: Net,
     width: usize,
     height: usize,
+    top: usize,
     picture: &[u8],
     offsets: &[i8],
     out: &mut [u8],
 )
-    requires { GlyphReady net width height picture.now offsets.now out.old × (width ≤ few_side) × (height ≤ few_side) }
+    requires ready { GlyphReady net width height picture.now offsets.now out.old }
+    requires room { HalvesReady net width height top (replicate CELLS 0) × (CELLS < 65536) }
     ensures { out.new ≡ written out.old (glyph_of net width height picture.now offsets.now) }
 {
-    let mut wires = [0u8; FEW_VALUES];
-    print_halves(
-        net, width, height, height, picture, offsets, &mut wires, out,
-    );
-}
-
-// Does the same for any picture. The values of few gates have room for all rows: a net of three levels or more has few gates, and `values` may compute
-// its table, once.
-fn print_large(
-    net: Net,
-    width: usize,
-    height: usize,
-    picture: &[u8],
-    offsets: &[i8],
-    out: &mut [u8],
-)
-    requires { GlyphReady net width height picture.now offsets.now out.old }
-    ensures { out.new ≡ written out.old (glyph_of net width height picture.now offsets.now) }
-{
-    let mut wires = [0u8; MOST_VALUES];
-    if net.gates <= FEW_GATES {
-        return print_halves(
-            net, width, height, height, picture, offsets, &mut wires, out,
-        );
-    }
-    let top = height - height / 2;
+    let mut wires = [0u8; CELLS];
     print_halves(net, width, height, top, picture, offsets, &mut wires, out);
 }
 
+// Prints the new picture. A small one gets less room: clearing more takes longer than printing it. The values of few gates have room for all rows: a net of
+// three levels or more has few gates, and `values` may compute its table, once.
 pub fn print_glyph(
     net: Net,
     width: usize,
@@ -111,10 +90,13 @@ pub fn print_glyph(
     requires { GlyphReady net width height picture.now offsets.now out.old }
     ensures { out.new ≡ written out.old (glyph_of net width height picture.now offsets.now) }
 {
-    if width <= FEW_SIDE {
-        if height <= FEW_SIDE {
-            return print_small(net, width, height, picture, offsets, out);
-        }
+    if width <= FEW_SIDE && height <= FEW_SIDE {
+        return print_in::<FEW_VALUES>(net, width, height, height, picture, offsets, out);
     }
-    print_large(net, width, height, picture, offsets, out);
+    let top = if net.gates <= FEW_GATES {
+        height
+    } else {
+        height - height / 2
+    };
+    print_in::<MOST_VALUES>(net, width, height, top, picture, offsets, out);
 }

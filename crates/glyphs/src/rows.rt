@@ -18,13 +18,8 @@ pub fn print_rows(
     requires { RowsReady wires.now start width rows first out.old }
     ensures { out.new ≡ sets out.old first (rows_from wires.now start width rows) }
 {
-    let mut from: usize = start;
-    let mut at: usize = first;
-    let mut y: usize = 0;
-    while y < rows {
-        copy(&wires[from..from + width], out, at);
-        from += width + BORDER;
-        at += width;
-        y += 1;
+    for y in 0..rows {
+        let from = start + y * (width + BORDER);
+        copy(&wires[from..from + width], out, first + y * width);
     }
 }

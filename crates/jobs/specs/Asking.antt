@@ -1,22 +1,25 @@
 -- What the answer for a group represents, and its outcomes.
 -- Assumes nothing.
-use Rattle.std.specs.Prelude.{◌<◌, ◌≤◌, ◌^◌, ◌≡◌}
+use Rattle.std.specs.Prelude.{◌<◌, ◌≤◌, ◌^◌, ◌≡◌, Option, Some, None, Result}
 use Rattle.laws.specs.Prelude.{ℕ, ◌∙◌, sym, ap, List, ℕ_discrete, arith, get_or, get_or-take}
 use Rattle.rules.specs.Calls.Answers as answers
 use Rattle.rules.specs.Calls.Answers.{accepted, refused}
 use Rattle.rules.specs.Calls.Jobs as rules
 use Rattle.rules.specs.Calls.Jobs.{no_table_of, Asked, ask_job, final, not_reached}
 use Rattle.laws.specs.Calls.Jobs.{ask_empty, ask_over, ask_passed, ask_ahead}
+use Rattle.answers.specs.AnswerMaps.{answer_as}
+use Rattle.answers.specs.declared.refusal.Refusal.{Refusal}
 use Rattle.nets.specs.declared.forms.Header.{Header}
 use Rattle.nets.specs.Forms.{header_of}
 use Rattle.jobs.specs.Forms.{Fronted, table_from, job_in, job_front_table}
-use Rattle.jobs.specs.declared.asking.Reached.{Reached}
-use Rattle.jobs.specs.declared.asking.Reached.TheVariants.{Final, NotReached, Refused}
 
-abbrev pub reached_as : Reached → answers.Answer rules.Reached
-reached_as (Final mark) = accepted (final mark)
-reached_as NotReached = accepted not_reached
-reached_as (Refused number place) = refused number place
+-- the mark of a group that has been passed, or that it is not reached
+abbrev pub mark_as : Option ℕ → rules.Reached
+mark_as (Some mark) = final mark
+mark_as None = not_reached
+
+abbrev pub reached_as : Result (Option ℕ) Refusal → answers.Answer rules.Reached
+reached_as r = answer_as mark_as r
 
 -- a job with no table
 pub ask_none : (lines marks : List ℕ) (passed g : ℕ) → ((cells : List ℕ) → table_from lines cells ≡ no_table_of)

@@ -1,21 +1,21 @@
 -- The four calls on a job by value: the job that each returns, every byte of it, what that job represents, and the answer.
 -- Assumes nothing.
-use Rattle.std.specs.Prelude.{◌+◌, ◌≡◌}
+use Rattle.std.specs.Prelude.{◌+◌, ◌≡◌, Some, None, Ok, Err}
 use Rattle.laws.specs.Prelude.{ℕ, ◌∙◌, sym, ap, List}
 use Rattle.rules.specs.Sheets.Sheets.{Table}
-use Rattle.rules.specs.Calls.Answers.{accepted, refused}
+use Rattle.rules.specs.Calls.Answers.{accepted}
 use Rattle.rules.specs.Calls.OpenCells.{read_full}
 use Rattle.rules.specs.Calls.Jobs.{open_job, Opened, step_job, Stepped, further, ask_job, finish_job}
 use Rattle.laws.specs.Calls.OpenCells.{read_accepted}
 use Rattle.laws.specs.Calls.Jobs.{open_refused, open_accepted, step_done, step_on}
 use Rattle.readback.specs.Sheets.ReadBack.{table_accepted}
-use Rattle.answers.specs.declared.outcome.Outcome.TheVariants.{Accepted, Refused}
-use Rattle.answers.specs.AnswerMaps.{made_of, outcome_as}
+use Rattle.answers.specs.AnswerMaps.{made_of, outcome_as, refused_by}
+use Rattle.answers.specs.declared.refusal.Kind.TheVariants as kinds
+use Rattle.answers.specs.declared.refusal.Refusal.{Refusal}
 use Rattle.jobs.specs.Forms.{job_in, job_of}
 use Rattle.jobs.specs.Opening.{opened_bytes, new_bytes, no_bytes, new_job_lem, opened_empty_job}
 use Rattle.jobs.specs.Stepping.{NextMark, with_mark, after, marks_same, marks_further, job_further}
 use Rattle.jobs.specs.Asking.{reached_as}
-use Rattle.jobs.specs.declared.next.Next.TheVariants.{Done, Mark}
 use Rattle.jobs.specs.declared.job.Job.{Job}
 use Rattle.jobs.specs.declared.job.Opened as own_opened
 use Rattle.jobs.specs.declared.job.Stepped as own_stepped
@@ -44,17 +44,16 @@ pub record FinishDone (job : Job) (cells marks output : List ℕ) (r : own_finis
 -- ---- opening
 
 module _ (s : List ℕ) (job : Job) where
-  pub opened_none : job ≡ no_bytes → (number place : ℕ) → read_full s ≡ refused number place
-      → OpenDone s (record { job = job; outcome = Refused number place })
+  pub opened_none : job ≡ no_bytes → (refusal : Refusal) → read_full s ≡ refused_by refusal → OpenDone s (record { job = job; outcome = Err refusal })
   unfolding opened_bytes
-  opened_none is number place e =
+  opened_none is refusal e =
       record {
         bytes = is ∙ sym (rw (e, opened_bytes));
-        job = ap job_of is ∙ opened_empty_job ∙ sym (ap (λ (o : Opened). o.job) (open_refused s number place e));
-        outcome = sym (ap (λ (o : Opened). o.answer) (open_refused s number place e));
+        job = ap job_of is ∙ opened_empty_job ∙ sym (ap (λ (o : Opened). o.job) (open_refused s _ _ e));
+        outcome = sym (ap (λ (o : Opened). o.answer) (open_refused s _ _ e));
       }
 
-  pub opened_new : (t : Table) → job ≡ new_bytes t → read_full s ≡ accepted t → OpenDone s (record { job = job; outcome = Accepted })
+  pub opened_new : (t : Table) → job ≡ new_bytes t → read_full s ≡ accepted t → OpenDone s (record { job = job; outcome = Ok tt })
   unfolding opened_bytes
   opened_new t is e =
       record {
@@ -66,7 +65,7 @@ module _ (s : List ℕ) (job : Job) where
 -- ---- a step
 
 module _ (job : Job) where
-  pub stepped_done : NextMark (job_of job) Done → StepDone job (record { job = job; outcome = Refused 21 0 })
+  pub stepped_done : NextMark (job_of job) None → StepDone job (record { job = job; outcome = Err (record { kind = kinds.JobDone; place = 0 }) })
   unfolding after job_in
   stepped_done h =
       let e = step_done (job_of job) h in
@@ -83,8 +82,8 @@ module _ (job : Job) where
         outcome = sym (ap (λ (s : Stepped). s.answer) e);
       }
 
-  pub stepped_on : (mark : ℕ) → NextMark (job_of job) (Mark mark) → (next : Job) → next ≡ with_mark job mark
-      → StepDone job (record { job = next; outcome = Accepted })
+  pub stepped_on : (mark : ℕ) → NextMark (job_of job) (Some mark) → (next : Job) → next ≡ with_mark job mark
+      → StepDone job (record { job = next; outcome = Ok tt })
   unfolding after with_mark further job_in
   stepped_on mark (h, room, is) next to =
       let e = step_on (job_of job) h in

@@ -1,7 +1,7 @@
 -- What a job by value represents. Every value of the struct represents a job. Its lines are read like a table sheet's first lines, up to the space
 -- after the last name; if they are refused, the job has no inputs. Its inks and marks are at the front of their arrays.
 -- Assumes nothing.
-use Rattle.std.specs.Prelude.{◌≤◌, ◌^◌, ◌≡◌}
+use Rattle.std.specs.Prelude.{◌≤◌, ◌^◌, ◌≡◌, Result, Ok, Err}
 use Rattle.laws.specs.Prelude.{ℕ, sym, List, take, pow_mono}
 use Rattle.rules.specs.Limits.{most_inputs}
 use Rattle.rules.specs.Text.{space}
@@ -18,7 +18,7 @@ use Rattle.nets.specs.declared.forms.Header.{Header}
 use Rattle.nets.specs.Forms.{header_of, table_in}
 use Rattle.fields.specs.Header.FirstLines.{HeaderHeld, HeaderRest}
 use Rattle.fields.specs.declared.header.name_line.HeaderRead.{HeaderRead}
-use Rattle.fields.specs.declared.steps.Step.TheVariants.{On, Back}
+use Rattle.answers.specs.declared.refusal.Refusal.{Refusal}
 use Rattle.jobs.specs.declared.job.Job.{Job}
 
 -- the number of bytes for a job's first lines, and the number of groups of the most inputs
@@ -58,14 +58,14 @@ pub record Fronted (lines : List ℕ) (h : Header) : Type 0 where
   pub reads : header_lines space lines 0 ≡ read (header_of lines h) rest place
   pub held : HeaderHeld lines h
 
-module _ (lines : List ℕ) (r : HeaderRead) (did : HeaderRest lines 0 (header_lines space) r) where
-  pub fronted : (value next : ℕ) → r.step ≡ On value next → Fronted lines r.header
-  fronted value next e = record { rest = _; place = next; reads = sym (rw e at did.reads); held = did.held value next e }
+module _ (lines : List ℕ) (r : Result HeaderRead Refusal) (did : HeaderRest lines 0 (header_lines space) r) where
+  pub fronted : (found : HeaderRead) → r ≡ Ok found → Fronted lines found.header
+  fronted found e = record { rest = _; place = found.next; reads = sym (rw e at did.reads); held = did.held found e }
 
   -- if they are refused, there is no table
-  pub not_fronted : (number place : ℕ) → r.step ≡ Back number place → (cells : List ℕ) → table_from lines cells ≡ no_table_of
+  pub not_fronted : (e : Refusal) → r ≡ Err e → (cells : List ℕ) → table_from lines cells ≡ no_table_of
   unfolding table_from
-  not_fronted number place e cells = rw (sym (rw e at did.reads), table_from)
+  not_fronted e is cells = rw (sym (rw is at did.reads), table_from)
 
 module _ (lines : List ℕ) (h : Header) (is : Fronted lines h) where
   pub front_size : Size h.levels h.inputs

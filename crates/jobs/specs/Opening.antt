@@ -27,6 +27,7 @@ use Rattle.nets.specs.declared.forms.Header.{Header}
 use Rattle.nets.specs.Forms.{name_in, header_of, table_in}
 use Rattle.net_sheets.specs.Text.Lines.{spaced, spaced_from, spaced_all}
 use Rattle.net_sheets.specs.Text.Names.{NamesInside}
+use Rattle.net_sheets.specs.Text.Put.{PutRoom, NetLeft, parts_left, room_for}
 use Rattle.accepted.specs.Taken.{Given}
 use Rattle.jobs.specs.Forms.{most_lines, most_groups, table_from, job_in, job_of, job_groups_room}
 use Rattle.jobs.specs.declared.job.Job.{Job}
@@ -60,7 +61,7 @@ ended_spaced (w ∷ v ∷ ws) =
     append_assoc w (space ∷ []) (ended space (v ∷ ws)) ∙ ap {B = List ℕ} (λ (r : List ℕ). w ++ (space ∷ r)) (ended_spaced (v ∷ ws))
 
 -- the text, split into the parts in which it is written
-pub head_parts : (s : List ℕ) (h : Header) → head_text space (header_of s h)
+head_parts : (s : List ℕ) (h : Header) → head_text space (header_of s h)
     ≡ (line (text "levels" ∷ text "inputs" ∷ []) ++ line (decimal h.levels ∷ decimal h.inputs ∷ [])) ++ spaced_from (name_in s h) 0 h.inputs
 unfolding head_text header_of
 head_parts s h =
@@ -105,6 +106,19 @@ head_room h kept =
 pub record OwnLines (s : List ℕ) (h : Header) : Type 0 where
   pub names : NamesInside s h
   pub room : length (head_text space (header_of s h)) ≤ most_lines
+
+-- the first two
+abbrev pub first_two : Header → List ℕ
+first_two h = line (text "levels" ∷ text "inputs" ∷ []) ++ line (decimal h.levels ∷ decimal h.inputs ∷ [])
+
+module _ (s : List ℕ) (h : Header) (asks : OwnLines s h) where
+  -- at first all of them are left to write
+  pub lines_left : NetLeft (replicate most_lines 0) 0 (first_two h ++ spaced_from (name_in s h) 0 h.inputs) (replicate most_lines 0) 0
+      (head_text space (header_of s h))
+  lines_left = parts_left (head_parts s h) (omega (arith, asks.room))
+
+  pub first_two_room : PutRoom (replicate most_lines 0) 0 (first_two h)
+  first_two_room = room_for (first_two h) (spaced_from (name_in s h) 0 h.inputs) lines_left
 
 pub own_lines : (s : List ℕ) (h : Header) (inks : List ℕ) → Given s h inks → OwnLines s h
 own_lines s h inks given = record { names = given.names; room = head_room (header_of s h) given.kept.header }

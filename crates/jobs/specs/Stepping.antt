@@ -1,6 +1,6 @@
 -- A step to the next group, in the bytes of a job.
 -- Assumes nothing.
-use Rattle.std.specs.Prelude.{◌<◌, ◌≤◌, ◌+◌, ◌-◌, ◌^◌, ◌≡◌, ◌∷◌, ◌++◌}
+use Rattle.std.specs.Prelude.{◌<◌, ◌≤◌, ◌+◌, ◌-◌, ◌^◌, ◌≡◌, ◌∷◌, ◌++◌, Option, Some, None}
 use Rattle.laws.specs.Prelude.{ℕ, suc, zero, ◌∙◌, sym, ap, refl, true, ap₂, List, [], sub-zero, arith, length, take}
 use Rattle.laws.specs.Prelude.{drop, set, length-set, take-append-drop, length-take-le, drop-set-lt, pow_mono}
 use Rattle.rules.specs.Limits.{size_fits, most_levels}
@@ -16,8 +16,6 @@ use Rattle.nets.specs.declared.forms.Header.{Header}
 use Rattle.nets.specs.Forms.{header_of}
 use Rattle.jobs.specs.Forms.{most_groups, table_from, job_in, Fronted, job_front_table, front_job, front_groups}
 use Rattle.jobs.specs.declared.job.Job.{Job}
-use Rattle.jobs.specs.declared.next.Next.{Next}
-use Rattle.jobs.specs.declared.next.Next.TheVariants.{Done, Mark}
 
 -- the mark of the next group of a table, from the marks of those below it
 abbrev pub next_mark : rules.Job → ℕ
@@ -25,10 +23,10 @@ next_mark job =
     let t = job.table in
     mark_of t.header.levels t.header.inputs (ink_in t.inks) job.marks (job.passed + 1)
 
--- the result for the next group: all groups have been passed, or this is its mark
-abbrev pub NextMark : rules.Job → Next → Type 0
-NextMark job Done = groups_of job ≤ job.passed
-NextMark job (Mark mark) = (job.passed < groups_of job) × (job.passed + 1 < most_groups) × (mark ≡ next_mark job)
+-- the result for the next group: this is its mark, or all groups have been passed
+abbrev pub NextMark : rules.Job → Option ℕ → Type 0
+NextMark job None = groups_of job ≤ job.passed
+NextMark job (Some mark) = (job.passed < groups_of job) × (job.passed + 1 < most_groups) × (mark ≡ next_mark job)
 
 -- the bytes with that mark
 unfoldable pub with_mark : Job → ℕ → Job
@@ -115,10 +113,6 @@ pub record MarkReady (m n : ℕ) (inks : List ℕ) (g : ℕ) (marks : List ℕ) 
   pub group : g < 2 ^ n
   pub room : 2 ^ n ≤ length marks
 
--- the most inks of a small table
-abbrev pub few_inks : ℕ
-few_inks = 256
-
 -- work arrays as long as the table have room
 pub mark_room : (m n : ℕ) (inks : List ℕ) (g : ℕ) (marks : List ℕ) → MarkReady m n inks g marks → (xs ys : List ℕ) → length inks ≤ length xs
     → length inks ≤ length ys → OffsetRoom m n inks xs ys × (m ≤ most_levels) × (g < 2 ^ n) × (g ≤ length marks)
@@ -139,7 +133,7 @@ mark_room m n inks g marks ready xs ys for_xs for_ys =
     )
 
 -- a job with no table
-pub next_none : (lines cells marks : List ℕ) (passed : ℕ) → table_from lines cells ≡ no_table_of → NextMark (job_in lines cells marks passed) Done
+pub next_none : (lines cells marks : List ℕ) (passed : ℕ) → table_from lines cells ≡ no_table_of → NextMark (job_in lines cells marks passed) None
 unfolding job_in groups_of no_table_of
 next_none lines cells marks passed none =
     let no_groups : 2 ^ (table_from lines cells).header.inputs - 1 ≡ 0 = ap (λ (t : Table). 2 ^ t.header.inputs - 1) none in
@@ -150,13 +144,13 @@ module _ (lines : List ℕ) (h : Header) (is : Fronted lines h) (cells marks : L
   unfolding groups_of job_in header_of
   groups_are = ap (λ (t : Table). 2 ^ t.header.inputs - 1) (job_front_table lines h is cells) ∙ ap (λ (k : ℕ). k - 1) (sym all)
 
-  pub next_done : end - 1 ≤ passed → NextMark (job_in lines cells marks passed) Done
+  pub next_done : end - 1 ≤ passed → NextMark (job_in lines cells marks passed) None
   unfolding job_in
   next_done l = omega (arith, groups_are)
 
   pub next_marked : passed < end - 1 → (count : ℕ) → count ≡ h.levels ^ h.inputs → (mark : ℕ)
       → mark ≡ mark_of h.levels h.inputs (ink_in (take (count - 0) cells)) (take (end - 0) marks) (passed + 1)
-      → NextMark (job_in lines cells marks passed) (Mark mark)
+      → NextMark (job_in lines cells marks passed) (Some mark)
   unfolding job_in header_of
   next_marked l count own_cells mark e = (
     omega (arith, groups_are),

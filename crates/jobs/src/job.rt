@@ -1,11 +1,8 @@
 // A job by value, and its four calls. The caller may pass any job, whether it was opened or not.
 ghost use Rattle.jobs.specs.Calls.{OpenDone, StepDone, AskDone, FinishDone};
 
-use crate::asking::Reached;
-use crate::next::Next;
 use crate::{asking, finishing, next, opening};
-use answers::answer::Answer;
-use answers::outcome::Outcome;
+use answers::refusal::{Kind, Refusal};
 use marks::own;
 use radix::limits;
 
@@ -22,29 +19,29 @@ pub struct Job {
     pub passed: usize,
 }
 
-// What opening returns. The job is empty if the sheet is refused.
+// What opening returns. The contract says that the job is empty if the sheet is refused, and docs/DECISIONS.md names this form by value, so no `Result`.
 #[derive(Drop)]
 pub struct Opened {
     pub job: Job,
-    pub outcome: Outcome,
+    pub outcome: Result<(), Refusal>,
 }
 
 #[derive(Drop)]
 pub struct Stepped {
     pub job: Job,
-    pub outcome: Outcome,
+    pub outcome: Result<(), Refusal>,
 }
 
 #[derive(Drop)]
 pub struct Asked {
     pub job: Job,
-    pub answer: Reached,
+    pub answer: Result<Option<u8>, Refusal>,
 }
 
 #[derive(Drop)]
 pub struct Finished {
     pub job: Job,
-    pub answer: Answer,
+    pub answer: Result<usize, Refusal>,
 }
 
 impl Job {
@@ -59,22 +56,17 @@ impl Job {
     pub fn step(self) -> Stepped
         ensures { StepDone self result }
     {
-        let lines = self.lines;
-        let cells = self.cells;
-        let marks = self.marks;
-        let passed = self.passed;
-        let found = next::next_mark(&lines, &cells, &marks, passed);
-        match found {
-            Next::Done => Stepped {
+        match next::next_mark(&self.lines, &self.cells, &self.marks, self.passed) {
+            None => Stepped {
                 job: self,
-                outcome: Outcome::Refused {
-                    number: 21,
+                outcome: Err(Refusal {
+                    kind: Kind::JobDone,
                     place: 0,
-                },
+                }),
             },
-            Next::Mark(mark) => Stepped {
+            Some(mark) => Stepped {
                 job: next::marked(self, mark),
-                outcome: Outcome::Accepted,
+                outcome: Ok(()),
             },
         }
     }
@@ -83,12 +75,9 @@ impl Job {
     pub fn mark(self, group: usize) -> Asked
         ensures { AskDone self group result }
     {
-        let lines = self.lines;
-        let marks = self.marks;
-        let passed = self.passed;
         Asked {
+            answer: asking::mark_in(&self.lines, &self.marks, self.passed, group),
             job: self,
-            answer: asking::mark_in(&lines, &marks, passed, group),
         }
     }
 
@@ -97,12 +86,9 @@ impl Job {
         ensures { FinishDone self cells.old marks.old out.old result cells.new marks.new
             out.new }
     {
-        let lines = self.lines;
-        let own = self.cells;
-        let passed = self.passed;
         Finished {
+            answer: finishing::finish_in(&self.lines, &self.cells, self.passed, cells, marks, out),
             job: self,
-            answer: finishing::finish_in(&lines, &own, passed, cells, marks, out),
         }
     }
 }

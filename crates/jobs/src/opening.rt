@@ -8,7 +8,6 @@ ghost use Rattle.jobs.specs.Calls.{OpenDone};
 
 use crate::job;
 use crate::job::{Job, Opened};
-use answers::outcome::Outcome;
 use marks::own;
 use net_sheets::text::header;
 use net_sheets::text::put::copy;
@@ -34,10 +33,8 @@ fn own_lines(s: &[u8], h: Header) -> [u8; job::MOST_LINES]
     ensures { result ≡ lines_of (header_of s.now h) }
 {
     let mut lines = [0u8; job::MOST_LINES];
-    let levels = h.levels;
-    let inputs = h.inputs;
-    let p = header::print_pair(b"levels inputs\n", levels, inputs, &mut lines, 0);
-    header::print_names(s, h, inputs, &mut lines, p);
+    let p = header::print_pair(b"levels inputs\n", h.levels, h.inputs, &mut lines, 0);
+    header::print_names(s, h, h.inputs, &mut lines, p);
     lines
 }
 
@@ -67,19 +64,16 @@ pub fn open(s: &[u8]) -> Opened
     ensures { OpenDone s.now result }
 {
     let mut inks = [0u8; limits::MOST_CELLS];
-    let read = full::read_full(s, &mut inks);
-    let outcome = read.outcome;
-    let h = read.header;
-    match outcome {
-        Outcome::Refused { number, place } => Opened {
+    match full::read_full(s, &mut inks) {
+        Err(refusal) => Opened {
             job: no_job(),
-            outcome: Outcome::Refused { number, place },
+            outcome: Err(refusal),
         },
-        Outcome::Accepted => {
+        Ok(h) => {
             let count = powers::power(h.levels, h.inputs);
             Opened {
                 job: new_job(s, h, &inks[0..count]),
-                outcome: Outcome::Accepted,
+                outcome: Ok(()),
             }
         }
     }

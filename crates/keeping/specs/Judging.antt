@@ -1,6 +1,6 @@
 -- Keeping a wiring for two sheets: a refusal, then a full table.
 -- Assumes nothing.
-use Rattle.std.specs.Prelude.{◌<◌, ◌≤◌, ◌-◌, ◌^◌, ◌≡◌}
+use Rattle.std.specs.Prelude.{◌<◌, ◌≤◌, ◌-◌, ◌^◌, ◌≡◌, Result, Ok, Err}
 use Rattle.laws.specs.Prelude.{ℕ, ◌∙◌, sym, ap, refl, true, false, Bool, List, lt_of_not-le, dec_le, length, get_or, take, lt-ltb}
 use Rattle.laws.specs.Prelude.{le-ltb}
 use Rattle.rules.specs.Sheets.Sheets as sheets
@@ -15,18 +15,19 @@ use Rattle.laws.specs.Calls.Checking.{same_header_lem}
 use Rattle.laws.specs.Calls.OpenCells.{read_full_lem}
 use Rattle.laws.specs.Calls.Settling.{sheet_15, sheet_written}
 use Rattle.laws.specs.Calls.Keeping.{keep_net_refused, keep_table_refused, keep_accepted, keep_12, keep_27, keep_13, keep_23_0, keep_23, keep_15, keep_written}
-use Rattle.answers.specs.AnswerMaps.{named_of}
-use Rattle.answers.specs.declared.named.Named.{Named}
+use Rattle.answers.specs.AnswerMaps.{refused_by}
+use Rattle.answers.specs.Kinds.{number_of}
+use Rattle.answers.specs.declared.named.SheetRefusal.{SheetRefusal}
+use Rattle.answers.specs.declared.refusal.Refusal.{Refusal}
 use Rattle.nets.specs.declared.forms.Header.{Header}
 use Rattle.nets.specs.declared.forms.Net.{Net}
 use Rattle.nets.specs.Forms.{header_of, table_in, net_in}
 use Rattle.table_reader.specs.TableReading.{inks_in}
-use Rattle.accepted.specs.declared.both.BothRead.{BothRead}
-use Rattle.accepted.specs.declared.both.Pairing.TheVariants.{Accepted, Refused}
+use Rattle.net_sheets.specs.declared.reader.net.NetRead.{NetRead}
 use Rattle.accepted.specs.Taken.{Given, inks_front, inks_table, inks_full}
 use Rattle.accepted.specs.Both.{BothTaken, BothReads, Judges, both_turned, both_onward, both_kept}
 use Rattle.keeping.specs.Rewriting.{full_short, full_long}
-use Rattle.keeping.specs.KeepAnswers.{with_changed, sheet_kept, filled_into, full_into}
+use Rattle.keeping.specs.KeepAnswers.{turned_by, with_changed, sheet_kept, filled_into, full_into}
 
 -- after refusal 27
 
@@ -81,7 +82,7 @@ module _ (s t : List ℕ) (h : Header) (net : Net) (inks : List ℕ) (taken : Bo
       inks_full s h inks count is t
       (read_full_lem t (table_in s h (inks_in inks h)) taken.table (ap (full h.levels) (sym (inks_front s h inks count is)) ∙ sym whole)) taken.own.header
 
-module _ (s t inks cells output : List ℕ) (r : BothRead) (read : BothReads s t inks r) where
+module _ (s t inks cells output : List ℕ) (r : Result NetRead SheetRefusal) (reads : BothReads s t inks r) where
   refusal : answers.Named → ℕ → ℕ → KeptWiring
   refusal who number place = record { answer = turned_away who number place; cells = cells; output = output }
 
@@ -95,31 +96,30 @@ module _ (s t inks cells output : List ℕ) (r : BothRead) (read : BothReads s t
         differ = λ net table. keep_12 net table cells output;
       }
 
-  pub keep_refused : (who : Named) (number place : ℕ) → r.outcome ≡ Refused who number place
-      → record { answer = turned_away (named_of who) number place; cells = cells; output = output } ≡ keep_call s t cells output
+  pub keep_refused : (e : SheetRefusal) → r ≡ Err e → record { answer = turned_by e; cells = cells; output = output } ≡ keep_call s t cells output
   unfolding refusal
-  keep_refused who number place e =
-      both_turned s t refusal (λ net table. kept_into net table cells output) (keep_call s t cells output) judges inks r read who number place e
+  keep_refused e is = both_turned s t refusal (λ net table. kept_into net table cells output) (keep_call s t cells output) judges inks r reads e is
 
-  module _ (on : r.outcome ≡ Accepted) (count : ℕ) (is : count ≡ r.header.levels ^ r.header.inputs) where
+  module _ (read : NetRead) (on : r ≡ Ok read) (count : ℕ) (is : count ≡ read.header.levels ^ read.header.inputs) where
     abbrev h : Header
-    h = r.header
+    h = read.header
 
-    onward : kept_into (net_in s h r.net) (table_in s h (take (count - 0) inks)) cells output ≡ keep_call s t cells output
+    onward : kept_into (net_in s h read.net) (table_in s h (take (count - 0) inks)) cells output ≡ keep_call s t cells output
     onward =
-        ap (λ (table : Table). kept_into (net_in s h r.net) table cells output) (inks_table s h inks count is)
-        ∙ both_onward s t refusal (λ net table. kept_into net table cells output) (keep_call s t cells output) judges inks r read on
+        ap (λ (table : Table). kept_into (net_in s h read.net) table cells output) (inks_table s h inks count is)
+        ∙ both_onward s t refusal (λ net table. kept_into net table cells output) (keep_call s t cells output) judges inks r reads read on
 
     same : same_header (header_of s h) (header_of s h) ≡ true
     same = same_header_lem (header_of s h) (header_of s h) refl
 
     -- refusal 27, which names the table sheet
-    pub table_open : (number place : ℕ) → refused number place ≡ full h.levels (take (count - 0) inks)
-        → record { answer = turned_away table_named number place; cells = cells; output = output } ≡ keep_call s t cells output
+    pub table_open : (e : Refusal) → refused_by e ≡ full h.levels (take (count - 0) inks)
+        → record { answer = turned_away table_named (number_of e.kind) e.place; cells = cells; output = output } ≡ keep_call s t cells output
     unfolding full_table header_of
-    table_open number place e = sym (keep_27 (net_in s h r.net) (table_in s h (take (count - 0) inks)) cells output same number place (sym e)) ∙ onward
+    table_open e told =
+        sym (keep_27 (net_in s h read.net) (table_in s h (take (count - 0) inks)) cells output same (number_of e.kind) e.place (sym told)) ∙ onward
 
     pub full_told : accepted tt ≡ full h.levels (take (count - 0) inks)
-        → (k : KeptWiring) → k ≡ full_into (net_in s h r.net) (table_in s h (take (count - 0) inks)) cells output → k ≡ keep_call s t cells output
+        → (k : KeptWiring) → k ≡ full_into (net_in s h read.net) (table_in s h (take (count - 0) inks)) cells output → k ≡ keep_call s t cells output
     unfolding full_table header_of
-    full_told whole k e = e ∙ sym (past_27 (net_in s h r.net) (table_in s h (take (count - 0) inks)) cells output same (sym whole)) ∙ onward
+    full_told whole k e = e ∙ sym (past_27 (net_in s h read.net) (table_in s h (take (count - 0) inks)) cells output same (sym whole)) ∙ onward

@@ -1,5 +1,6 @@
 -- What the code's answer and buffers represent in the definitions of document 02, K10.
 -- Assumes nothing.
+use Rattle.std.specs.Prelude.{Result, Ok, Err}
 use Rattle.laws.specs.Prelude.{ℕ, suc, true, false, List, ltb, length}
 use Rattle.rules.specs.Sheets.Sheets.{Net, Table}
 use Rattle.rules.specs.Sheets.Printed.{printed_net}
@@ -7,15 +8,19 @@ use Rattle.rules.specs.Calls.Answers as answers
 use Rattle.rules.specs.Calls.Settling.{written_sheet}
 use Rattle.rules.specs.Calls.Keeping.{Keeping, rewritten, turned_away, KeptWiring, kept_net, roomy_before, leaves_out, changed_gates}
 use Rattle.answers.specs.AnswerMaps.{named_of}
+use Rattle.answers.specs.Kinds.{number_of}
+use Rattle.answers.specs.declared.named.SheetRefusal.{SheetRefusal}
 use Rattle.keeping.specs.declared.answer.Kept.{Kept}
-use Rattle.keeping.specs.declared.answer.Kept.TheVariants.{Accepted, Refused}
 
-abbrev pub keeping_of : Kept → Keeping
-keeping_of (Accepted length changed) = rewritten length changed
-keeping_of (Refused named number place) = turned_away (named_of named) number place
+abbrev pub turned_by : SheetRefusal → Keeping
+turned_by e = turned_away (named_of e.named) (number_of e.refusal.kind) e.refusal.place
+
+abbrev pub keeping_of : Result Kept SheetRefusal → Keeping
+keeping_of (Ok kept) = rewritten kept.length kept.changed
+keeping_of (Err e) = turned_by e
 
 -- the answer, and the two buffers after the call
-abbrev pub kept_one_of : Kept → List ℕ → List ℕ → KeptWiring
+abbrev pub kept_one_of : Result Kept SheetRefusal → List ℕ → List ℕ → KeptWiring
 kept_one_of r cells output = record { answer = keeping_of r; cells = cells; output = output }
 
 -- a sheet's length with the set of the gates that changed; a refusal names neither sheet

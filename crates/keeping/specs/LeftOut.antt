@@ -1,11 +1,11 @@
--- The inputs that matter to a table and that no gate of a net uses. In the search, the remaining inputs decide whether there is one.
+-- The inputs that matter to a table and that no gate of a net uses.
 -- Assumes nothing.
-use Rattle.std.specs.Prelude.{◌-◌, ◌≡◌, ◌&&◌}
-use Rattle.laws.specs.Prelude.{ℕ, ◌∙◌, ap, true, false, Bool, not, and-false, List, map, sub-zero, eqb}
+use Rattle.std.specs.Prelude.{◌+◌, ◌≡◌, ◌&&◌, ◌||◌}
+use Rattle.std.specs.List.{range_with_len, list_any}
+use Rattle.laws.specs.Prelude.{ℕ, suc, zero, ◌∙◌, ap, refl, true, false, Bool, not, List, add-one, eqb}
 use Rattle.rules.specs.Lists.{range, any}
 use Rattle.rules.specs.Sheets.Sheets.{Gate, used_by}
 use Rattle.rules.specs.Nets.Leaves.{matters}
-use Rattle.laws.specs.Lists.Tests.{any_map}
 
 -- input i matters and is not used
 abbrev pub is_left_out : ℕ → ℕ → (ℕ → ℕ) → List Gate → ℕ → Bool
@@ -15,22 +15,14 @@ is_left_out m n f gates i = not (any (eqb i) (used_by gates)) && matters m n f i
 abbrev pub leaves_out_of : ℕ → ℕ → (ℕ → ℕ) → List Gate → Bool
 leaves_out_of m n f gates = any (is_left_out m n f gates) (range 0 n)
 
--- this holds for some input from i on
-abbrev pub leaves_out_from : ℕ → ℕ → (ℕ → ℕ) → List Gate → ℕ → Bool
-leaves_out_from m n f gates i = any (λ (b : Bool). b) (map (is_left_out m n f gates) (range i (n - i)))
-
-module _ (m n : ℕ) (f : ℕ → ℕ) (gates : List Gate) where
-  pub keeping_from_first : leaves_out_from m n f gates 0 ≡ leaves_out_of m n f gates
-  keeping_from_first = any_map (is_left_out m n f gates) (λ b. b) (range 0 (n - 0)) ∙ ap (λ (k : ℕ). any (is_left_out m n f gates) (range 0 k)) (sub-zero n)
-
-  -- an input that is used, ..
-  pub used_kept : (i : ℕ) → any (eqb i) (used_by gates) ≡ true → is_left_out m n f gates i ≡ false
-  used_kept i e = rw e
-
-  -- .. one that does not matter, ..
-  pub idle_kept : (i : ℕ) → matters m n f i ≡ false → is_left_out m n f gates i ≡ false
-  idle_kept i e = rw e (and-false (not (any (eqb i) (used_by gates))))
-
-  -- .. and one that matters and is not used
-  pub keeping_left_out : (i : ℕ) → any (eqb i) (used_by gates) ≡ false → matters m n f i ≡ true → is_left_out m n f gates i ≡ true
-  keeping_left_out i free is = rw (free, is)
+-- the library's `any` over a range is that of the definitions
+pub any_of_range : (test : ℕ → Bool) (from count : ℕ) → list_any test (range_with_len from count) ≡ any test (range from count)
+unfolding any range
+any_of_range test from zero = refl
+any_of_range test from (suc count) =
+    ap (λ (rest : Bool). test from || rest) (any_of_range test (from + 1) count ∙ ap (λ (k : ℕ). any test (range k count)) (add-one from))
+    ∙ either (test from) (any test (range (suc from) count))
+  where
+    either : (t rest : Bool) → (t || rest) ≡ elim t [ true ↦ true | false ↦ rest ]
+    either true rest = refl
+    either false rest = refl

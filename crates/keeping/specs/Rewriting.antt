@@ -1,6 +1,6 @@
 -- A net's wiring for a full table: the cells buffer, then the gates' groups and the sheet.
 -- Assumes nothing.
-use Rattle.std.specs.Prelude.{◌<◌, ◌≤◌, ◌+◌, ◌^◌, ◌≡◌}
+use Rattle.std.specs.Prelude.{◌<◌, ◌≤◌, ◌+◌, ◌^◌, ◌≡◌, Result}
 use Rattle.laws.specs.Prelude.{ℕ, suc, ◌∙◌, sym, ap, ap₂, subst⁻¹, subst₂, true, false, List, arith, length, lt-ltb, le-ltb}
 use Rattle.rules.specs.Sheets.Sheets as sheets
 use Rattle.rules.specs.Sheets.Sheets.{Table}
@@ -19,14 +19,16 @@ use Rattle.nets.specs.Sound.{Sound, gates_length}
 use Rattle.wirings.specs.declared.forms.Wiring.{Wiring}
 use Rattle.wirings.specs.Links.{links_in}
 use Rattle.gate_tables.specs.Sized.{Sized, sized_cells}
-use Rattle.gate_tables.specs.Filled.{Filled}
+use Rattle.gate_tables.specs.Filled.{Filled, FilledTo}
 use Rattle.gate_tables.specs.MadeNet.{NetOf}
-use Rattle.answers.specs.declared.answer.Answer.{Answer}
+use Rattle.answers.specs.declared.named.SheetRefusal.{SheetRefusal}
+use Rattle.answers.specs.declared.refusal.Refusal.{Refusal}
 use Rattle.answers.specs.AnswerMaps.{answer_of, made_of}
 use Rattle.accepted.specs.Taken.{NetTaken, Given, sound}
 use Rattle.settling.specs.Outcomes.{given_size, given_count, given_below}
 use Rattle.keeping.specs.declared.answer.Kept.{Kept}
 use Rattle.keeping.specs.KeepAnswers.{keeping_of, kept_one_of, with_changed, sheet_kept, filled_into, full_into}
+use Rattle.keeping.specs.Groups.{roomy_filled, filled_whole}
 use Rattle.keeping.specs.LeftOut.{leaves_out_of}
 
 -- what `keep_filled` requires
@@ -90,7 +92,7 @@ module _ (s : List ℕ) (h : Header) (net : Net) (inks : List ℕ) (taken : NetT
           ))
 
       -- refusal 15, or the sheet
-      pub sheet_told : net.gates ≤ roomy → (r : Kept) (after : List ℕ)
+      pub sheet_told : net.gates ≤ roomy → (r : Result Kept SheetRefusal) (after : List ℕ)
           → ((own : List ℕ) → kept_one_of r own after ≡ sheet_kept (net_in s h net) (table_in s h inks) own output)
           → kept_one_of r cells_then after ≡ filled_into (net_in s h net) (table_in s h inks) cells output
       unfolding filled_into
@@ -157,12 +159,42 @@ module _ (s : List ℕ) (h : Header) (net : Net) (inks : List ℕ) (taken : NetT
       }
 
       -- the sheet's answer together with the set
-      pub rewrite_told : (answer : Answer) (output after : List ℕ)
+      pub rewrite_told : (answer : Result ℕ Refusal) (output after : List ℕ)
           → ((cells marks : List ℕ) → made_of answer cells marks after ≡ written_sheet (printed_net (net_in s h new)) cells marks output)
-          → (set : ℕ) → set ≡ changed_gates (gates_of net) (gates_of new) → (r : Kept) → keeping_of r ≡ with_changed set (answer_of answer)
+          → (set : ℕ) → set ≡ changed_gates (gates_of net) (gates_of new) → (r : Result Kept SheetRefusal) → keeping_of r ≡ with_changed set (answer_of answer)
           → (cells : List ℕ) → kept_one_of r cells after ≡ sheet_kept (net_in s h net) (table_in s h inks) cells output
       unfolding sheet_kept
       rewrite_told answer output after did set is r told cells =
           let made = did cells cells ∙ ap (λ (k : sheets.Net). written_sheet (printed_net k) cells cells output) new_is in
           let changed = is ∙ ap (λ (k : sheets.Net). changed_gates (gates_of net) k.gates) new_is in
           λ i. record { answer = (told ∙ ap₂ with_changed changed (ap (λ m. m.answer) made)) i; cells = cells; output = (made i).output }
+
+-- ---- the wiring, filled up to the first gate with too many classes
+
+module _ (s : List ℕ) (h : Header) (net : Net) (inks cells : List ℕ) (ready : KeepingReady s h net inks cells) (w : Wiring)
+    (is : (w.gates ≡ net.gates) × (links_in w ≡ gate_links (gates_of net))) (new : Net) (to : FilledTo net.levels net.inputs (ink_in inks) w new) where
+  pub filled_roomy : new.gates ≡ roomy_gates net.levels net.inputs (ink_in inks) (gates_of net)
+  filled_roomy =
+      roomy_filled net (sound s h net ready.taken) (table_sized s h net inks ready.taken ready.given).some w is.1 (ink_in inks) new is.0 to
+
+  -- if that is every gate, the net is whole
+  module _ (enough : net.gates ≤ new.gates) where
+    pub filled_all : Filled net.levels net.inputs (ink_in inks) w new
+    filled_all =
+        filled_whole net (sound s h net ready.taken) (table_sized s h net inks ready.taken ready.given).some w is.1 (ink_in inks) new is.0 to enough
+
+    module _ (takes : leaves_out_of net.levels net.inputs (ink_in inks) (gates_of net) ≡ false) where
+      few_all : net.gates ≤ roomy_gates net.levels net.inputs (ink_in inks) (gates_of net)
+      few_all = omega (arith, enough, filled_roomy)
+
+      pub filled_net : NetOf h.levels h.inputs (kept_gates net.levels net.inputs (ink_in inks) (gates_of net)) new
+      filled_net = new_net s h net inks ready.taken ready.given takes few_all w is.1 new filled_all
+
+      pub filled_told : (cells_then output : List ℕ) → cells_then ≡ written cells inks → (answer : Result ℕ Refusal) (after : List ℕ)
+          → ((cells marks : List ℕ) → made_of answer cells marks after ≡ written_sheet (printed_net (net_in s h new)) cells marks output)
+          → (set : ℕ) → set ≡ changed_gates (gates_of net) (gates_of new)
+          → (r : Result Kept SheetRefusal) → keeping_of r ≡ with_changed set (answer_of answer)
+          → kept_one_of r cells_then after ≡ filled_into (net_in s h net) (table_in s h inks) cells output
+      filled_told cells_then output copied answer after did set set_is r told =
+          sheet_told s h net inks ready.taken ready.given cells cells_then output copied takes new.gates filled_roomy enough r after
+          (rewrite_told s h net inks ready.taken ready.given takes few_all w is.1 new filled_all answer output after did set set_is r told)

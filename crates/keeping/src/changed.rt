@@ -14,12 +14,10 @@ fn same_table(old: Net, new: Net, k: usize) -> bool
     requires { (Sound old) × (new.levels ≡ old.levels) × (k < old.gates) }
     ensures { result ≡ same (gate_of old k).digits (gate_of new k).digits }
 {
-    let before = old.digits;
-    let after = new.digits;
     let size = old.levels * old.levels;
     let from = k * size;
     let end = from + size;
-    same_bytes(&before[from..end], &after[from..end])
+    same_bytes(&old.digits[from..end], &new.digits[from..end])
 }
 
 // Returns the set of changed gates, as the sum of 2 to the power of each gate's number, from 1.
@@ -28,13 +26,9 @@ pub fn changed_gates(old: Net, new: Net) -> usize
     ensures { result ≡ changed_gates (gates_of old) (gates_of new) }
 {
     let mut set: usize = 0;
-    let mut k: usize = 0;
-    while k < old.gates {
-        if same_table(old, new, k) {
-            k += 1;
-        } else {
+    for k in 0..old.gates {
+        if !same_table(old, new, k) {
             set += power(2, k + 1);
-            k += 1;
         }
     }
     set

@@ -9,7 +9,8 @@ use crate::answer::{Kept, with_changed};
 use crate::changed::changed_gates;
 use crate::left_out::leaves_out;
 use crate::wiring::wiring_of;
-use answers::named::Named;
+use answers::named::{Named, SheetRefusal};
+use answers::refusal::{Kind, Refusal};
 use gate_tables::fill::fill_while_few;
 use net_sheets::printer::output::write_sheet;
 use net_sheets::text::put::copy;
@@ -23,27 +24,31 @@ fn keep_filled(
     inks: &[u8],
     cells: &mut [u8],
     out: &mut [u8],
-) -> Kept
+) -> Result<Kept, SheetRefusal>
     requires { KeepingReady s.now header net inks.now cells.old }
     ensures { kept_one_of result cells.new out.new
         ≡ filled_into (net_in s.now header net) (table_in s.now header inks.now) cells.old out.old }
 {
     copy(inks, cells, 0);
     if leaves_out(net, inks) {
-        return Kept::Refused {
+        return Err(SheetRefusal {
             named: Named::Neither,
-            number: 23,
-            place: 0,
-        };
+            refusal: Refusal {
+                kind: Kind::Wiring,
+                place: 0,
+            },
+        });
     }
     let filled = fill_while_few(net.levels, net.inputs, inks, wiring_of(net));
     let roomy = filled.gates;
     if roomy < net.gates {
-        return Kept::Refused {
+        return Err(SheetRefusal {
             named: Named::Neither,
-            number: 23,
-            place: roomy + 1,
-        };
+            refusal: Refusal {
+                kind: Kind::Wiring,
+                place: roomy + 1,
+            },
+        });
     }
     let changed = changed_gates(net, filled);
     with_changed(write_sheet(s, header, filled, out), changed)
@@ -57,17 +62,19 @@ pub fn keep_full(
     inks: &[u8],
     cells: &mut [u8],
     out: &mut [u8],
-) -> Kept
+) -> Result<Kept, SheetRefusal>
     requires { NetTaken s.now header net × Given s.now header inks.now }
     ensures { kept_one_of result cells.new out.new
         ≡ full_into (net_in s.now header net) (table_in s.now header inks.now) cells.old out.old }
 {
     if cells.len() < inks.len() {
-        return Kept::Refused {
+        return Err(SheetRefusal {
             named: Named::Neither,
-            number: 13,
-            place: inks.len(),
-        };
+            refusal: Refusal {
+                kind: Kind::CellsShort,
+                place: inks.len(),
+            },
+        });
     }
     keep_filled(s, header, net, inks, cells, out)
 }

@@ -5,45 +5,33 @@ ghost use Rattle.keeping.specs.KeepAnswers.{kept_one_of};
 
 use crate::answer::Kept;
 use crate::filled::keep_full;
-use accepted::both::{Pairing, read_both};
-use answers::named::Named;
-use answers::outcome::Outcome;
+use accepted::both::read_both;
+use answers::named::{Named, SheetRefusal};
 use cells::full::judge_full;
 use radix::limits::MOST_CELLS;
 use radix::powers::power;
 
 // Keeps a net sheet's wiring, and fills its gates again for a table sheet, whose inks go to the cells buffer. The caller may pass any bytes.
 // Refusal 27, of a table with an open cell, names the table sheet.
-pub fn keep(net_sheet: &[u8], table_sheet: &[u8], cells: &mut [u8], out: &mut [u8]) -> Kept
+pub fn keep(
+    net_sheet: &[u8],
+    table_sheet: &[u8],
+    cells: &mut [u8],
+    out: &mut [u8],
+) -> Result<Kept, SheetRefusal>
     ensures { kept_one_of result cells.new out.new
         ≡ keep_call net_sheet.now table_sheet.now cells.old out.old }
 {
     let mut inks = [0u8; MOST_CELLS];
-    let read = read_both(net_sheet, table_sheet, &mut inks);
-    let outcome = read.outcome;
+    let read = read_both(net_sheet, table_sheet, &mut inks)?;
     let header = read.header;
-    let net = read.net;
-    match outcome {
-        Pairing::Refused {
-            named,
-            number,
-            place,
-        } => Kept::Refused {
-            named,
-            number,
-            place,
-        },
-        Pairing::Accepted => {
-            let count = power(header.levels, header.inputs);
-            let judged = judge_full(header.levels, &inks[0..count]);
-            match judged {
-                Outcome::Refused { number, place } => Kept::Refused {
-                    named: Named::Table,
-                    number,
-                    place,
-                },
-                Outcome::Accepted => keep_full(net_sheet, header, net, &inks[0..count], cells, out),
-            }
-        }
+    let count = power(header.levels, header.inputs);
+    let table = &inks[0..count];
+    match judge_full(header.levels, table) {
+        Err(refusal) => Err(SheetRefusal {
+            named: Named::Table,
+            refusal,
+        }),
+        Ok(()) => keep_full(net_sheet, header, read.net, table, cells, out),
     }
 }

@@ -15,16 +15,5 @@ pub fn leaves_out(net: Net, cells: &[u8]) -> bool
     requires { (Sound net) × (Sized net.levels net.inputs cells.now) }
     ensures { result ≡ leaves_out_of net.levels net.inputs (ink_in cells.now) (gates_of net) }
 {
-    let mut i: usize = 0;
-    while i < net.inputs {
-        if is_used(net, i) {
-            i += 1;
-        } else {
-            if matters(net.levels, net.inputs, cells, i) {
-                return true;
-            }
-            i += 1;
-        }
-    }
-    false
+    (0..net.inputs).any(|i| !is_used(net, i) && matters(net.levels, net.inputs, cells, i))
 }

@@ -11,11 +11,11 @@ use wirings::forms::Wiring;
 pub fn wiring_of(net: Net) -> Wiring
     ensures { (result.gates ≡ net.gates) × (links_in result ≡ gate_links (gates_of net)) }
 {
-    let lefts = net.left;
-    let rights = net.right;
+    let left = net.left;
+    let right = net.right;
     Wiring {
         gates: net.gates,
-        left: lefts,
-        right: rights,
+        left,
+        right,
     }
 }

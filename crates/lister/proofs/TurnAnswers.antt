@@ -1,13 +1,13 @@
 -- What a lister gives at a place, and so at turn k if k turns lead there.
 -- Assumes nothing.
-use Rattle.std.specs.Prelude.{◌<◌, ◌≤◌, ◌+◌, ◌-◌, ◌≡◌}
+use Rattle.std.specs.Prelude.{◌<◌, ◌≤◌, ◌+◌, ◌-◌, ◌≡◌, Option, Some, None}
 use Rattle.laws.specs.Prelude.{ℕ, ◌∙◌, ap, List, [], zero-add, dec_lt, arith, leb, length, take, drop, lt-ltb, le-ltb, le-leb, lt-leb}
 use denote.Ref.{Bor}
 use Rattle.rules.specs.Calls.Lister.{line_length, Turn, gate_at, none_left_of}
 use Rattle.readback.specs.Nets.GateLines.{part_of}
 use Rattle.lister.specs.Turns.{turn_at, is_none, part_in, turn_numbers, Says}
 use Rattle.lister.specs.Standing.{turn_stands}
-use Rattle.lister.specs.declared.turns.Turn.TheVariants.{Line, NoneLeft}
+use Rattle.lister.specs.declared.turns.Line.{Line}
 use Rattle.lister.proofs.TurnSteps.{line_within}
 
 pub says : {A : Type 0} (s : List ℕ) (at : ℕ) (f : Turn → A) (r : A) → r ≡ f (turn_at s at) → Says s at f r
@@ -40,11 +40,11 @@ module _ (s : List ℕ) (at : ℕ) where
     pub line_end : end ≤ length s
     line_end = omega (arith, line_within s at (omega arith))
 
-    pub turn_given : Says s at turn_numbers (Line at (end - at))
+    pub turn_given : Says s at turn_numbers (Some (record { start = at; count = end - at }))
     unfolding turn_numbers
-    turn_given = says s at turn_numbers _ (rw (turn_line h) (ap (Line at) count))
+    turn_given = says s at turn_numbers _ (rw (turn_line h) (ap {B = Option Line} (λ n. Some (record { start = at; count = n })) count))
 
-  pub turn_none : length s ≤ at → Says s at turn_numbers NoneLeft
+  pub turn_none : length s ≤ at → Says s at turn_numbers None
   unfolding turn_numbers
   turn_none h = says s at turn_numbers _ (rw (turn_end h))
 

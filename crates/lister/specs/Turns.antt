@@ -1,13 +1,12 @@
 -- What a lister gives at a place, and at its k-th turn.
 -- Assumes nothing.
-use Rattle.std.specs.Prelude.{◌+◌, ◌≡◌}
+use Rattle.std.specs.Prelude.{◌+◌, ◌≡◌, Option, Some, None}
 use Rattle.laws.specs.Prelude.{ℕ, true, false, Bool, List, [], ltb, length, drop}
 use Rattle.std.specs.Borrow.{Bor}
 use Rattle.rules.specs.Calls.Answers.{Answer, accepted, refused}
 use Rattle.rules.specs.Calls.Lister.{line_length, Turn, gate_at, none_left_of, listing}
 use Rattle.readback.specs.Nets.GateLines.{part_of}
-use Rattle.lister.specs.declared.turns.Turn as code
-use Rattle.lister.specs.declared.turns.Turn.TheVariants.{Line, NoneLeft}
+use Rattle.lister.specs.declared.turns.Line.{Line}
 use Rattle.lister.specs.Places.{stands_at}
 
 -- the turn of a lister at the place `at`
@@ -31,9 +30,9 @@ part_in s (gate_at p) = ((s.ref_ptr.0, p.start + s.ref_ptr.1), part_of s.now p)
 part_in s none_left_of = (s.ref_ptr, [])
 
 -- the turn in the code's numbers
-unfoldable pub turn_numbers : Turn → code.Turn
-turn_numbers (gate_at p) = Line p.start p.count
-turn_numbers none_left_of = NoneLeft
+unfoldable pub turn_numbers : Turn → Option Line
+turn_numbers (gate_at p) = Some (record { start = p.start; count = p.count })
+turn_numbers none_left_of = None
 
 -- `r` is `f` of the turn of a lister at `at`. If `at` is the place after k turns from its start, on any sheet, it is `f` of turn k of `listing`.
 pub record Says {A : Type 0} (s : List ℕ) (at : ℕ) (f : Turn → A) (r : A) : Type 0 where

@@ -9,14 +9,12 @@ use fields::runs::NEWLINE;
 pub fn line_end(s: &[u8], at: usize) -> usize
     ensures { result ≡ at + line_length (drop at s.now) }
 {
-    let mut i: usize = at;
-    while i < s.len() {
-        if s[i] == NEWLINE {
-            return i;
+    for end in at..s.len() {
+        if s[end] == NEWLINE {
+            return end;
         }
-        i += 1;
     }
-    i
+    at.max(s.len())
 }
 
 // Returns the place after the line feed at `end`, or the sheet's end.

@@ -3,11 +3,11 @@ ghost use Rattle.lister.specs.Turns.{Says, is_none, part_in, turn_numbers};
 
 use crate::places::line_end;
 
-// A gate line, given as the part of the sheet that holds it without its line feed, or no line is left.
-#[derive(Clone, Copy)]
-pub enum Turn {
-    Line { start: usize, count: usize },
-    NoneLeft,
+// A gate line, given as the part of the sheet that holds it without its line feed.
+#[derive(Clone, Copy, PartialEq, Eq, Debug)]
+pub struct Line {
+    pub start: usize,
+    pub count: usize,
 }
 
 // Tests whether no line is left.
@@ -28,14 +28,14 @@ pub fn line_at(s: &[u8], at: usize) -> &[u8]
     &s[0..0]
 }
 
-// Returns the turn in numbers.
-pub fn turn_at(s: &[u8], at: usize) -> Turn
+// Returns the turn in numbers, or `None` if no line is left.
+pub fn turn_at(s: &[u8], at: usize) -> Option<Line>
     ensures { Says s.now at turn_numbers result }
 {
     if s.len() <= at {
-        return Turn::NoneLeft;
+        return None;
     }
     let end = line_end(s, at);
     let count = end - at;
-    Turn::Line { start: at, count }
+    Some(Line { start: at, count })
 }

@@ -1,7 +1,7 @@
 -- Tidying: a loose sheet that was read, its cells and its table sheet.
 -- Assumes nothing.
-use Rattle.std.specs.Prelude.{◌<◌, ◌≤◌, ◌-◌, ◌^◌, ◌≡◌}
-use Rattle.laws.specs.Prelude.{ℕ, suc, ◌∙◌, sym, ap, refl, subst, true, false, Bool, false≢true, List, sub-zero, arith, length}
+use Rattle.std.specs.Prelude.{◌<◌, ◌≤◌, ◌^◌, ◌≡◌, Result, Ok, Err}
+use Rattle.laws.specs.Prelude.{ℕ, suc, ◌∙◌, sym, ap, refl, subst, true, false, Bool, false≢true, List, arith, length}
 use Rattle.laws.specs.Prelude.{take, length-take-le}
 use Rattle.rules.specs.Limits.{most_cells}
 use Rattle.rules.specs.Sheets.Sheets.{Table}
@@ -17,11 +17,9 @@ use Rattle.readback.specs.Tables.LooseTables.{in_order_of, strict_read, strict_s
 use Rattle.nets.specs.Forms.{header_of, table_in}
 use Rattle.nets.specs.declared.forms.Header.{Header}
 use Rattle.fields.specs.Header.FirstLines.{HeaderHeld}
-use Rattle.answers.specs.AnswerMaps.{answer_of, outcome_as}
-use Rattle.answers.specs.declared.answer.Answer.{Answer}
-use Rattle.answers.specs.declared.outcome.Outcome.TheVariants.{Accepted, Refused}
+use Rattle.answers.specs.AnswerMaps.{answer_of, answer_as, refused_by}
+use Rattle.answers.specs.declared.refusal.Refusal.{Refusal}
 use Rattle.table_reader.specs.TableReading.{TableReads, inks_in}
-use Rattle.table_reader.specs.declared.sheet.TableRead.{TableRead}
 use Rattle.loose_sheets.specs.Reader.LooseReading.{LooseReads, loose_in}
 use Rattle.net_sheets.specs.Text.Put.{Put, NetWrote, put_wrote}
 use Rattle.accepted.specs.Taken.{held_size, names_inside, table_taken}
@@ -29,7 +27,7 @@ use Rattle.table_printer.specs.Lengths.{Measures}
 use Rattle.table_printer.specs.Tables.{TableInside}
 
 -- the answer, and the two buffers after the call
-abbrev pub tidied_of : Answer → List ℕ → List ℕ → Tidied
+abbrev pub tidied_of : Result ℕ Refusal → List ℕ → List ℕ → Tidied
 tidied_of r cells output = record { answer = answer_of r; cells = cells; output = output }
 
 -- the header of an accepted loose sheet, whose inks are at the front of `cells` in index order
@@ -51,58 +49,58 @@ not_itself s h inks e = absurd (false≢true e)
 
 -- ---- the results of reading
 
-module _ (s cells : List ℕ) (r : TableRead) (read : LooseReads s cells r) where
-  pub loose_taken : most_cells ≤ length cells → r.outcome ≡ Accepted → LooseTaken s r.header cells
+module _ (s cells : List ℕ) (r : Result Header Refusal) (read : LooseReads s cells r) where
+  pub loose_taken : most_cells ≤ length cells → (h : Header) → r ≡ Ok h → LooseTaken s h cells
   unfolding table_of_loose header_of
-  loose_taken room e =
-      let held = read.held e in
+  loose_taken room h e =
+      let held = read.held h e in
       record {
-        table = loose_in s r.header read.rows;
-        reads = sym read.answer ∙ ap (outcome_as (loose_in s r.header read.rows)) e;
-        tidied = ap (table_in s r.header) (sym held.inks.inks);
+        table = loose_in s h read.rows;
+        reads = sym read.answer ∙ ap (answer_as _) e;
+        tidied = ap (table_in s h) (sym held.inks.inks);
         header = held.header;
         below = held.inks.below;
         room = room;
       }
 
-  pub loose_refused : (number place : ℕ) → r.outcome ≡ Refused number place → read_loose s ≡ refused number place
-  loose_refused number place e = sym read.answer ∙ ap (outcome_as (loose_in s r.header read.rows)) e
+  pub loose_refused : (e : Refusal) → r ≡ Err e → read_loose s ≡ refused_by e
+  loose_refused e is = sym read.answer ∙ ap (answer_as _) is
 
 -- the same for a strict sheet, which is an accepted loose one
-module _ (s cells : List ℕ) (r : TableRead) (read : TableReads s cells r) (e : r.outcome ≡ Accepted) where
+module _ (s cells : List ℕ) (r : Result Header Refusal) (read : TableReads s cells r) (h : Header) (e : r ≡ Ok h) where
   abbrev t : Table
-  t = table_in s r.header (inks_in cells r.header)
+  t = table_in s h (inks_in cells h)
 
   reads : read_table s ≡ accepted t
-  reads = (table_taken s cells r read e).reads
+  reads = (table_taken s cells r read h e).reads
 
-  pub strict_taken : most_cells ≤ length cells → LooseTaken s r.header cells
+  pub strict_taken : most_cells ≤ length cells → LooseTaken s h cells
   strict_taken room =
       record {
         table = in_order_of t;
         reads = strict_read s t reads;
         tidied = strict_same s t reads;
-        header = (read.held e).header;
-        below = (read.held e).inks;
+        header = (read.held h e).header;
+        below = (read.held h e).inks;
         room = room;
       }
 
-  pub strict_itself : Itself true s r.header (inks_in cells r.header)
+  pub strict_itself : Itself true s h (inks_in cells h)
   strict_itself _ = (table_accepted s t reads).0
 
 -- ---- the cells
 
 module _ (s : List ℕ) (h : Header) (inks : List ℕ) (taken : LooseTaken s h inks) (count : ℕ) (is : count ≡ h.levels ^ h.inputs) where
-  front : take (count - 0) inks ≡ inks_in inks h
-  front = ap (λ (k : ℕ). take k inks) (sub-zero count ∙ is)
+  front : take count inks ≡ inks_in inks h
+  front = ap (λ (k : ℕ). take k inks) is
 
   pub loose_count_most : count ≤ most_cells
   loose_count_most = omega (arith, is, (held_size s h taken.header).cells_most)
 
-  pub loose_front_length : length (take (count - 0) inks) ≡ count
-  loose_front_length = ap (λ (k : ℕ). length (take k inks)) (sub-zero count) ∙ length-take-le count inks (omega (arith, loose_count_most, taken.room))
+  pub loose_front_length : length (take count inks) ≡ count
+  loose_front_length = length-take-le count inks (omega (arith, loose_count_most, taken.room))
 
-  pub front_inside : TableInside s h (take (count - 0) inks)
+  pub front_inside : TableInside s h (take count inks)
   front_inside =
       let size = held_size s h taken.header in
       record {
@@ -112,12 +110,12 @@ module _ (s : List ℕ) (h : Header) (inks : List ℕ) (taken : LooseTaken s h i
         digits = λ k l. omega (
           arith,
           size.levels_most,
-          below_at (suc h.levels) (take (count - 0) inks)
+          below_at (suc h.levels) (take count inks)
               (subst (Below (suc h.levels)) (sym front) taken.below) k l,
         );
       }
 
-  pub front_itself : (strict : Bool) → Itself strict s h (inks_in inks h) → Itself strict s h (take (count - 0) inks)
+  pub front_itself : (strict : Bool) → Itself strict s h (inks_in inks h) → Itself strict s h (take count inks)
   front_itself strict is_itself e = is_itself e ∙ ap (λ (xs : List ℕ). printed_table (table_in s h xs)) (sym front)
 
   module _ (cells output : List ℕ) where
@@ -131,8 +129,8 @@ module _ (s : List ℕ) (h : Header) (inks : List ℕ) (taken : LooseTaken s h i
         (λ i. record { answer = refused 13 (is i); cells = cells; output = output })
         ∙ sym (into ∙ tidied_13 (table_in s h (inks_in inks h)) cells output (subst (λ (k : ℕ). length cells < k) is short))
 
-    pub cells_written : count ≤ length cells → (filled : List ℕ) (end : ℕ) → Put cells 0 (take (count - 0) inks) filled end → (r : Answer) (after : List ℕ)
-        → ((others : List ℕ) → tidied_of r others after ≡ tidied_sheet (printed_table (table_in s h (take (count - 0) inks))) others output)
+    pub cells_written : count ≤ length cells → (filled : List ℕ) (end : ℕ) → Put cells 0 (take count inks) filled end → (r : Result ℕ Refusal) (after : List ℕ)
+        → ((others : List ℕ) → tidied_of r others after ≡ tidied_sheet (printed_table (table_in s h (take count inks))) others output)
         → tidied_of r filled after ≡ tidy_call s cells output
     unfolding header_of
     cells_written long filled end put r after sheet =

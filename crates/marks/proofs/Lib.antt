@@ -1,2 +1,1 @@
-pub mod FourMarks
 pub mod Passing

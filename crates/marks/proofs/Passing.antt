@@ -20,19 +20,10 @@ use Rattle.trees.specs.Leaves.Mattering.{matters_classes}
 use Rattle.trees.specs.Leaves.IdleMarks.{one_class_idle}
 use Rattle.trees.proofs.Leaves.IdleMarks.{idle_mark}
 use Rattle.radix.specs.Parts.{member_and, without_first, first_run}
-use Rattle.radix.specs.Widths.{most_members, groups_end}
 use Rattle.representatives.specs.Known.{Known}
 use Rattle.representatives.specs.Steps.{AllIdle, Near, near_none, near_next}
-use Rattle.marks.specs.Marking.{IdleGroup, Below, below_none, has_room, below_next, below_marked, marked_below}
-use Rattle.marks.specs.Fast.Below.{NextMark, GroupMarked, MoreIdle, as_before, with_group, apart_none, CopiesPassed, none_copied, some_copied}
-
--- arrays with the same lengths as others
-pub record Long (counts kept xs ys firsts counts' kept' xs' ys' firsts' : List ℕ) : Type 0 where
-  pub for_counts : length counts' ≡ length counts
-  pub for_kept : length kept' ≡ length kept
-  pub for_xs : length xs' ≡ length xs
-  pub for_ys : length ys' ≡ length ys
-  pub for_firsts : length firsts' ≡ length firsts
+use Rattle.marks.specs.Marking.{IdleGroup, Below, below_none, below_next, below_marked, marked_below}
+use Rattle.marks.specs.Fast.Below.{GroupMarked, MoreIdle, as_before, with_group, apart_none, CopiesPassed, none_copied, some_copied}
 
 pub record Passed (m n : ℕ) (f : ℕ → ℕ) (before : List ℕ) (counts kept marks : List ℕ) (idle past g : ℕ) : Type 0 where
   pub marked : Below m n f before g marks
@@ -62,21 +53,6 @@ record Grown (m n : ℕ) (f : ℕ → ℕ) (idle g more : ℕ) : Type 0 where
   last : (i : ℕ) → i < n → 2 ^ i ≡ g → matters m n f i ≡ false → member i more ≡ true
 
 module _ {m n : ℕ} {f : ℕ → ℕ} {before counts kept marks : List ℕ} {idle past g : ℕ} (passed : Passed m n f before counts kept marks idle past g) where
-  -- the power of two is at most `groups_end`
-  pub passed_past : n ≤ most_members → past ≤ groups_end
-  passed_past inputs = omega (arith, passed.near.is, pow_mono passed.near.low, pow_mono inputs)
-
-  -- the next group may be marked
-  pub passed_step : {next : ℕ} → g < 2 ^ n → (Near n g next) × (g < next) → NextMark m n f counts kept marks idle g next
-  passed_step g< past_of =
-      record {
-        all_idle = passed.all_idle;
-        group = g<;
-        known = passed.known;
-        near = past_of;
-        written = record { low = passed.marked.low; same = refl; front = passed.marked.front };
-      }
-
   -- the inputs that are known to be idle afterwards
   module _ {mark : ℕ} {counts' kept' : List ℕ} (pos : 0 < m) (g< : g < 2 ^ n) (group : GroupMarked m n f marks idle g mark counts' kept') where
     -- what is known about g, if it has no known idle member
@@ -148,9 +124,6 @@ module _ {m n : ℕ} {f : ℕ → ℕ} {before counts kept marks : List ℕ} {id
         without false t u none = refl
 
   module _ (room : 2 ^ n ≤ length before) where
-    pub passed_room : 2 ^ n ≤ length marks
-    passed_room = has_room m n f before room g marks passed.marked
-
     -- and then the group is passed
     pub passed_next : {next mark more : ℕ} {counts' kept' marks' : List ℕ} → 0 < m → g < 2 ^ n → (Near n g next) × (g < next)
         → GroupMarked m n f marks idle g mark counts' kept' → marks' ≡ set marks g mark → MoreIdle counts' g idle more

@@ -1,17 +1,17 @@
 -- What the marking call's answer and buffer represent, and its outcomes.
 -- Assumes nothing.
-use Rattle.std.specs.Prelude.{◌<◌, ◌≤◌, ◌≡◌}
+use Rattle.std.specs.Prelude.{◌<◌, ◌≤◌, ◌≡◌, Result}
 use Rattle.laws.specs.Prelude.{ℕ, true, false, List, ltb, length, lt-ltb, le-ltb}
 use Rattle.rules.specs.Groups.Groups.{whole_group}
 use Rattle.rules.specs.Groups.Marks.{mark_in, marks_of, marks_length, stored_marks}
 use Rattle.rules.specs.Calls.Marking.{Marked, marking_call}
 use Rattle.rules.specs.Calls.Answers.{accepted, refused, ink_in, written}
 use Rattle.rules.specs.Calls.OpenCells.{full_cells}
-use Rattle.answers.specs.declared.answer.Answer.{Answer}
+use Rattle.answers.specs.declared.refusal.Refusal.{Refusal}
 use Rattle.answers.specs.AnswerMaps.{answer_of}
 use Rattle.marks.specs.Marking.{Stored}
 
-abbrev pub marked_of : Answer → List ℕ → Marked
+abbrev pub marked_of : Result ℕ Refusal → List ℕ → Marked
 marked_of r marks = record { answer = answer_of r; marks = marks }
 
 -- the marking call once the bare cells are accepted and full

@@ -30,18 +30,11 @@ pub record Stored (m n : ℕ) (f : ℕ → ℕ) (before : List ℕ) (mark : ℕ)
   pub answer : mark ≡ mark_in (marks_of m n f) (whole_group n)
   pub buffer : after ≡ written before (stored_marks (marks_of m n f))
 
-pub marked_stored : {m n : ℕ} {f : ℕ → ℕ} {before : List ℕ} {mark : ℕ} {marks after : List ℕ} → MarkedInto m n f before mark marks after
-    → Stored m n f before mark after
-marked_stored did = record { answer = did.own.answer; buffer = did.buffer }
-
 -- what storing them requires and gives
 module _ {m n : ℕ} {f : ℕ → ℕ} {mark : ℕ} {marks : List ℕ} (did : Marking m n f mark marks) where
   pub marked_small : 0 < m → InTwoBits (2 ^ n) marks
   marked_small pos g g< =
       subst (λ (v : ℕ). v < 4) (sym (ap (λ (l : List ℕ). get_or l g 0) did.front) ∙ get_or-take (2 ^ n) marks g 0 g<) (mark_small m n pos f g g<)
-
-  pub marked_into_lem : {before after : List ℕ} → after ≡ written before (stored_marks (take (2 ^ n) marks)) → MarkedInto m n f before mark marks after
-  marked_into_lem {before} e = record { own = did; buffer = e ∙ ap (λ (l : List ℕ). written before (stored_marks l)) did.front }
 
 one_more : (m n : ℕ) (f : ℕ → ℕ) (g : ℕ) → marks_below m n f g ++ (mark_of m n f (marks_below m n f g) g ∷ []) ≡ marks_below m n f (suc g)
 unfolding marks_below

@@ -1,8 +1,7 @@
 -- The place of refusal 16 as the code searches for it: size by size, and within each size by rising number.
 -- Assumes nothing.
 use Rattle.std.specs.Prelude.{◌<◌, ◌≤◌, ◌+◌, ◌-◌, ◌^◌, ◌≡◌, ◌&&◌}
-use Rattle.laws.specs.Prelude.{ℕ, ◌∙◌, sym, ap, true, false, Bool, List, Memᴰ, sub-zero, arith, eqb, ltb, lt-ltb}
-use Rattle.laws.specs.Prelude.{le-ltb}
+use Rattle.laws.specs.Prelude.{ℕ, ◌∙◌, sym, ap, true, false, Bool, List, Memᴰ, sub-zero, arith, eqb}
 use Rattle.std.proofs.Math.Option.{Option, none, some}
 use Rattle.rules.specs.Lists.{range, those, concat_map, find}
 use Rattle.rules.specs.Groups.Groups.{size}
@@ -22,33 +21,21 @@ one_of n marks k g = eqb (size n g) k && is_one_of marks g
 unfoldable pub lowest : ℕ → ℕ → List ℕ → ℕ → ℕ → Option ℕ
 lowest n end marks k g = find (one_of n marks k) (range g (end - g))
 
--- what the code's answer represents: a number below `end` was found, or none
-unfoldable pub found_below : ℕ → ℕ → Option ℕ
-found_below end g = elim (ltb g end) [ true ↦ some g | false ↦ none ]
-
-found_some : (end g : ℕ) → g < end → found_below end g ≡ some g
-unfolding found_below
-found_some end g h = rw (lt-ltb g end h, found_below)
-
-found_none : (end g : ℕ) → end ≤ g → found_below end g ≡ none
-unfolding found_below
-found_none end g h = rw (le-ltb g end h, found_below)
-
 -- ---- one size
 
 module _ (n end : ℕ) (marks : List ℕ) (k g : ℕ) where
   module _ (h : g < end) where
-    pub lowest_here : one_of n marks k g ≡ true → found_below end g ≡ lowest n end marks k g
+    pub lowest_here : one_of n marks k g ≡ true → lowest n end marks k g ≡ some g
     unfolding lowest find
-    lowest_here e = found_some end g h ∙ rw (range_next g end h, e, find)
+    lowest_here e = rw (range_next g end h, e, find)
 
     pub lowest_next : one_of n marks k g ≡ false → lowest n end marks k (g + 1) ≡ lowest n end marks k g
     unfolding lowest find
     lowest_next e = rw (range_next g end h, e, find)
 
-  pub lowest_past : end ≤ g → found_below end end ≡ lowest n end marks k g
+  pub lowest_past : end ≤ g → lowest n end marks k g ≡ none
   unfolding lowest find
-  lowest_past h = found_none end end (omega arith) ∙ rw (range_none g end h)
+  lowest_past h = rw (range_none g end h)
 
 -- ---- size by size
 
@@ -62,15 +49,15 @@ module _ (n : ℕ) (marks : List ℕ) where
   unfolding place_from concat_map lowest
   size_next k h = rw (range_next k (n + 1) (omega arith), find_append, find_those, sub-zero)
 
-  module _ (k : ℕ) (h : k ≤ n) (end g : ℕ) (is : end ≡ 2 ^ n) (search : found_below end g ≡ lowest n end marks k 0) where
-    search_by : found_below end g ≡ lowest n (2 ^ n) marks k 0
-    search_by = search ∙ ap (λ (e : ℕ). lowest n e marks k 0) is
+  module _ (k : ℕ) (h : k ≤ n) (end : ℕ) (is : end ≡ 2 ^ n) where
+    search_by : (o : Option ℕ) → lowest n end marks k 0 ≡ o → place_from n marks k ≡ or_else o (place_from n marks (k + 1))
+    search_by o found = size_next k h ∙ ap (λ o. or_else o (place_from n marks (k + 1))) (sym (ap (λ (e : ℕ). lowest n e marks k 0) is) ∙ found)
 
-    pub place_here : g < end → place_from n marks k ≡ some g
-    place_here l = size_next k h ∙ ap (λ o. or_else o (place_from n marks (k + 1))) (sym search_by ∙ found_some end g l)
+    pub place_here : {g : ℕ} → lowest n end marks k 0 ≡ some g → place_from n marks k ≡ some g
+    place_here {g} found = search_by (some g) found
 
-    pub mark_place_next : end ≤ g → place_from n marks (k + 1) ≡ place_from n marks k
-    mark_place_next l = sym (size_next k h ∙ ap (λ o. or_else o (place_from n marks (k + 1))) (sym search_by ∙ found_none end g l))
+    pub mark_place_next : lowest n end marks k 0 ≡ none → place_from n marks (k + 1) ≡ place_from n marks k
+    mark_place_next found = sym (search_by none found)
 
   pub place_none : (k : ℕ) → n < k → place_from n marks k ≡ none
   unfolding place_from concat_map find

@@ -1,19 +1,23 @@
 // The marks of every group of a full table.
-ghost use Rattle.std.specs.Prelude.{◌^◌, ◌≤◌, length};
+ghost use Rattle.std.specs.Prelude.{◌+◌, ◌^◌, ◌≤◌, ◌<◌, length};
 ghost use Rattle.rules.specs.Groups.Marks.{marks_length};
 ghost use Rattle.rules.specs.Calls.Answers.{ink_in};
 ghost use Rattle.cells.specs.Full.{FullCells};
 ghost use Rattle.marks.specs.Marking.{Marking, MarkedInto, IdleGroup};
-ghost use Rattle.marks.specs.Fast.Below.{few_inputs, few_cells, Lent};
+ghost use Rattle.marks.specs.Fast.Below.{Lent};
 
 use crate::fast::below;
+use crate::own::MOST_GROUPS;
 use crate::{own, packing};
-use radix::{limits, powers};
+use radix::limits::{MOST_CELLS, MOST_INPUTS, MOST_KEPT, MOST_LEVELS};
+use radix::powers;
 
 // The most inputs, groups and cells of a table for which small work arrays are enough.
 pub const FEW_INPUTS: usize = 6;
 
 pub const FEW_GROUPS: usize = 1 << FEW_INPUTS;
+
+const FEW_KEPT: usize = FEW_GROUPS * MOST_LEVELS;
 
 const FEW_CELLS: usize = 1024;
 
@@ -40,8 +44,8 @@ fn mark_with(
         × (Lent m n (length counts.old) (length kept.old) (length xs.old) (length ys.old)) }
     ensures { (Marking m n (ink_in cells.now) result.mark marks.new) × (IdleGroup m n (ink_in cells.now) result.idle) }
 {
-    let mut weights = [0u16; limits::MOST_INPUTS];
-    let mut firsts = [0u16; limits::MOST_LEVELS + 1];
+    let mut weights = [0u16; MOST_INPUTS];
+    let mut firsts = [0u16; MOST_LEVELS + 1];
     powers::weights(m, n, &mut weights);
     let idle = below::mark_below(
         m,
@@ -61,27 +65,21 @@ fn mark_with(
     AllMarked { mark, idle }
 }
 
-// Does the same with arrays for a small table: clearing large ones takes longer than marking it.
-fn mark_small(m: usize, n: usize, cells: &[u8], marks: &mut [u8]) -> AllMarked
-    requires { (FullCells m n cells.now) × (2 ^ n ≤ length marks.old) × (n ≤ few_inputs) × (m ^ n ≤ few_cells) }
+// Does the same with arrays of these lengths.
+fn mark_in<const GROUPS: usize, const KEPT: usize, const CELLS: usize>(
+    m: usize,
+    n: usize,
+    cells: &[u8],
+    marks: &mut [u8],
+) -> AllMarked
+    requires { (FullCells m n cells.now) × (2 ^ n ≤ length marks.old)
+        × (Lent m n GROUPS KEPT CELLS CELLS) × (GROUPS + KEPT + CELLS < 2 ^ 16) }
     ensures { (Marking m n (ink_in cells.now) result.mark marks.new) × (IdleGroup m n (ink_in cells.now) result.idle) }
 {
-    let mut counts = [0u8; FEW_GROUPS];
-    let mut kept = [0u16; FEW_GROUPS * limits::MOST_LEVELS];
-    let mut xs = [0u16; FEW_CELLS];
-    let mut ys = [0u16; FEW_CELLS];
-    mark_with(m, n, cells, &mut counts, &mut kept, &mut xs, &mut ys, marks)
-}
-
-// Does the same with arrays for any table.
-fn mark_large(m: usize, n: usize, cells: &[u8], marks: &mut [u8]) -> AllMarked
-    requires { (FullCells m n cells.now) × (2 ^ n ≤ length marks.old) }
-    ensures { (Marking m n (ink_in cells.now) result.mark marks.new) × (IdleGroup m n (ink_in cells.now) result.idle) }
-{
-    let mut counts = [0u8; own::MOST_GROUPS];
-    let mut kept = [0u16; limits::MOST_KEPT];
-    let mut xs = [0u16; limits::MOST_CELLS];
-    let mut ys = [0u16; limits::MOST_CELLS];
+    let mut counts = [0u8; GROUPS];
+    let mut kept = [0u16; KEPT];
+    let mut xs = [0u16; CELLS];
+    let mut ys = [0u16; CELLS];
     mark_with(m, n, cells, &mut counts, &mut kept, &mut xs, &mut ys, marks)
 }
 
@@ -90,13 +88,12 @@ pub fn mark_all(m: usize, n: usize, cells: &[u8], marks: &mut [u8]) -> AllMarked
     requires { (FullCells m n cells.now) × (2 ^ n ≤ length marks.old) }
     ensures { (Marking m n (ink_in cells.now) result.mark marks.new) × (IdleGroup m n (ink_in cells.now) result.idle) }
 {
-    if FEW_INPUTS < n {
-        return mark_large(m, n, cells, marks);
+    // Clearing large arrays takes longer than marking a small table.
+    if n <= FEW_INPUTS && powers::power(m, n) <= FEW_CELLS {
+        mark_in::<FEW_GROUPS, FEW_KEPT, FEW_CELLS>(m, n, cells, marks)
+    } else {
+        mark_in::<MOST_GROUPS, MOST_KEPT, MOST_CELLS>(m, n, cells, marks)
     }
-    if FEW_CELLS < powers::power(m, n) {
-        return mark_large(m, n, cells, marks);
-    }
-    mark_small(m, n, cells, marks)
 }
 
 // Does the same, and packs the marks into the caller's buffer.

@@ -1,7 +1,8 @@
 // The place of refusal 16: among the groups that have mark 1, one of fewest members, and of these the one with the lowest number.
-ghost use Rattle.std.specs.Prelude.{◌≡◌, ◌^◌, ◌≤◌, ◌<◌, length};
+ghost use Rattle.std.specs.Prelude.{◌≡◌, ◌^◌, ◌≤◌, ◌<◌, length, MatchOption};
+ghost use Rattle.std.proofs.Math.Option.{none, some};
 ghost use Rattle.rules.specs.Groups.Marks.{no_tree_place};
-ghost use Rattle.marks.specs.NoTreePlace.{one_of, lowest, found_below};
+ghost use Rattle.marks.specs.NoTreePlace.{one_of, lowest};
 ghost use Rattle.radix.specs.Widths.{most_members};
 
 use crate::own;
@@ -12,25 +13,20 @@ fn is_one_of(n: usize, marks: &[u8], k: usize, g: usize) -> bool
     requires { g < length marks.now }
     ensures { result ≡ one_of n marks.now k g }
 {
-    if own::mark_at(marks, g) != 1 {
-        return false;
-    }
-    members::members(n, g) == k
+    own::mark_at(marks, g) == 1 && members::members(n, g) == k
 }
 
-// Returns the lowest group of k members that has mark 1, or `end`, past the last group, if there is none.
-fn lowest_one(n: usize, end: usize, marks: &[u8], k: usize) -> usize
+// Returns the lowest group below `end` that has mark 1 and k members.
+fn lowest_one(n: usize, end: usize, marks: &[u8], k: usize) -> Option<usize>
     requires { end ≤ length marks.now }
-    ensures { found_below end result ≡ lowest n end marks.now k 0 }
+    ensures { MatchOption result (lowest n end marks.now k 0 ≡ none) (λ g. lowest n end marks.now k 0 ≡ some g) }
 {
-    let mut g: usize = 0;
-    while g < end {
+    for g in 0..end {
         if is_one_of(n, marks, k, g) {
-            return g;
+            return Some(g);
         }
-        g += 1;
     }
-    end
+    None
 }
 
 pub fn no_tree_place(n: usize, marks: &[u8]) -> usize
@@ -38,13 +34,10 @@ pub fn no_tree_place(n: usize, marks: &[u8]) -> usize
     ensures { result ≡ no_tree_place n marks.now }
 {
     let end = powers::power(2, n);
-    let mut k: usize = 0;
-    while k <= n {
-        let g = lowest_one(n, end, marks, k);
-        if g < end {
+    for k in 0..=n {
+        if let Some(g) = lowest_one(n, end, marks, k) {
             return g;
         }
-        k += 1;
     }
     0
 }

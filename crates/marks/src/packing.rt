@@ -33,10 +33,7 @@ pub fn store(n: usize, marks: &[u8], buffer: &mut [u8])
         × (marks_length n ≤ length buffer.old) }
     ensures { buffer.new ≡ written buffer.old (stored_marks (take (2 ^ n) marks.now)) }
 {
-    let end = powers::power(2, n);
-    let mut g: usize = 0;
-    while g + 3 < end {
-        buffer[g / 4] = four(marks, g);
-        g += 4;
+    for i in 0..marks_length(n) {
+        buffer[i] = four(marks, 4 * i);
     }
 }

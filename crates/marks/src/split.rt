@@ -12,10 +12,7 @@ pub fn both_two(marks: &[u8], g: usize, a: usize) -> bool
     requires { (0 < a) × (a < g) × (g ≤ length marks.now) }
     ensures { result ≡ (eqb (mark_in marks.now a) 2 && eqb (mark_in marks.now (g - a)) 2) }
 {
-    if own::mark_at(marks, a) != 2 {
-        return false;
-    }
-    own::mark_at(marks, g - a) == 2
+    own::mark_at(marks, a) == 2 && own::mark_at(marks, g - a) == 2
 }
 
 // Returns the part A of lowest number that holds g's first-listed input, where A and the rest have mark 2; g itself if there is none.

@@ -19,7 +19,6 @@ abbrev layers_to : Net → ℕ → List ℕ
 layers_to net k = with_times 1 (replicate net.inputs 0) (map (gate_of net) (range 0 k))
 
 pub record Depths (net : Net) (k : ℕ) (depths : List ℕ) : Type 0 where
-  pub low : k ≤ net.gates
   pub long : length depths ≡ most_wires
   pub front : take (net.inputs + k) depths ≡ layers_to net k
 
@@ -41,7 +40,6 @@ module _ (net : Net) (sound : Sound net) where
   unfolding range with_each
   depths_none depths e =
       record {
-        low = omega arith;
         long = ap length e;
         front = rw (e, add-zero) (zeros_front net.inputs most_wires (omega (arith, wires_room net sound)));
       }
@@ -72,17 +70,15 @@ module _ (net : Net) (sound : Sound net) where
           let room : net.inputs + k < length depths = omega (arith, so_far.long, wires_room net sound) in
           let next : net.inputs + (k + 1) ≡ suc (net.inputs + k) = omega arith in
           record {
-            low = omega arith;
             long = length-set depths (net.inputs + k) (1 + d) ∙ so_far.long;
             front = rw (next, take-suc-set depths (net.inputs + k) (1 + d) room, add-one, map_range_suc, with_each_snoc, so_far.front)
                 (ap (λ (x : ℕ). layers_to net k ++ (x ∷ [])) one_more);
           }
 
-  pub depths_all : (k : ℕ) (depths : List ℕ) → Depths net k depths → net.gates ≤ k
+  pub depths_all : (k : ℕ) (depths : List ℕ) → Depths net k depths → k ≡ net.gates
       → get_or depths (net.inputs + net.gates - 1) 0 ≡ layers net.inputs (gates_of net)
   unfolding gates_of
-  depths_all k depths so_far end =
-      let all : k ≡ net.gates = omega (arith, so_far.low) in
+  depths_all k depths so_far all =
       let some : 0 < length (gates_of net) = omega (arith, gates_length net, gates_pos net sound) in
       let last : net.inputs + net.gates - 1 < net.inputs + k = omega (arith, gates_count net sound) in
       sym (get_or-take (net.inputs + k) depths (net.inputs + net.gates - 1) 0 last)

@@ -8,7 +8,7 @@ ghost use Rattle.programs.specs.Prints.{Prints};
 
 use crate::input::{first_read, front};
 use crate::refusal::print_refusal;
-use answers::answer::Answer;
+use answers::refusal::Refusal;
 use loose_sheets::tidy::tidy;
 use marks::packing;
 use net_sheets::text::put::copy;
@@ -23,18 +23,18 @@ pub struct Printed {
 }
 
 // Returns what a program prints for its call's answer and output.
-pub fn output_of(answer: Answer, out: &[u8]) -> Printed
+pub fn output_of(answer: Result<usize, Refusal>, out: &[u8]) -> Printed
     requires { length out.now ≤ most_read }
     ensures { Prints result.bytes result.length (program_output (answer_of answer) out.now) }
 {
     let mut bytes = [0u8; limits::MOST_READ];
     match answer {
-        Answer::Accepted(count) => {
+        Ok(count) => {
             let length = copy(front(out, count), &mut bytes, 0);
             Printed { bytes, length }
         }
-        Answer::Refused { number, place } => {
-            let length = print_refusal(number, place, &mut bytes);
+        Err(refusal) => {
+            let length = print_refusal(refusal.kind.number(), refusal.place, &mut bytes);
             Printed { bytes, length }
         }
     }

@@ -13,7 +13,6 @@ use Rattle.radix.specs.Offsets.{widened, widened_length, tail, tail_member, tail
 module _ (m n g : ℕ) where
   -- what is built before the turn for input i
   pub record Built (out : List ℕ) (len w i : ℕ) : Type 0 where
-    pub low : i ≤ n
     pub weight : w ≡ m ^ (n - i)
     pub count : len ≡ length (tail m g i (n - i))
     pub front : take len out ≡ tail m g i (n - i)
@@ -23,7 +22,6 @@ module _ (m n g : ℕ) where
   built_none [] h = absurd (omega arith)
   built_none (x ∷ out) h =
       record {
-        low = omega arith;
         weight = subst⁻¹ (λ (k : ℕ). 1 ≡ m ^ k) none (sym (pow-zero m));
         count = subst⁻¹ (λ (k : ℕ). 1 ≡ length (tail m g n k)) none refl;
         front = subst⁻¹ (λ (k : ℕ). 0 ∷ [] ≡ tail m g n k) none refl;
@@ -33,8 +31,8 @@ module _ (m n g : ℕ) where
       none = omega arith
 
   -- all is built
-  pub built_all : (out : List ℕ) (len w i : ℕ) → i ≤ 0 → Built out len w i → Front (points m n g) len out
-  built_all out len w i h b =
+  pub built_all : {out : List ℕ} {len w i : ℕ} → i ≤ 0 → Built out len w i → Front (points m n g) len out
+  built_all {out} {len} {w} {i} h b =
       let e : tail m g i (n - i) ≡ points m n g = ap₂ (tail m g) at_zero all ∙ sym (points_tail m n g) in
       record { count = b.count ∙ ap length e; is = b.front ∙ e }
     where
@@ -58,7 +56,7 @@ module _ (m n g : ℕ) where
           omega (arith, l, mul-le-mul_left (length (tail m g (suc i) k)) pos, mul-one (length (tail m g (suc i) k)))
       step false e = omega (arith, ap length (tail_other m g i k e))
 
-  module _ (pos : 0 < m) (out : List ℕ) (len w i : ℕ) (b : Built out len w i) where
+  module _ (pos : 0 < m) {out : List ℕ} {len w i : ℕ} (b : Built out len w i) where
     pub built_some : 0 < len
     built_some = subst⁻¹ (λ (k : ℕ). 0 < k) b.count (tail_length m g i (n - i) pos).0
 
@@ -73,9 +71,9 @@ module _ (m n g : ℕ) where
         (sym b.weight)
         (below_at (m ^ (n - i)) (tail m g i (n - i)) (tail_below m g i (n - i) pos) k (omega (arith, b.count)))
 
-    module _ (more : 0 < i) where
+    module _ (low : i ≤ n) (more : 0 < i) where
       steps : n - (i - 1) ≡ suc (n - i)
-      steps = omega (arith, b.low)
+      steps = omega arith
 
       back : suc (i - 1) ≡ i
       back = omega arith
@@ -100,7 +98,7 @@ module _ (m n g : ℕ) where
       -- there is room for the widened list
       pub built_room : member (i - 1) g ≡ true → len * m ≤ m ^ size n g
       built_room e =
-          let all : i - 1 + (n - (i - 1)) ≡ n = omega (arith, b.low) in
+          let all : i - 1 + (n - (i - 1)) ≡ n = omega arith in
           omega (
             arith,
             next_count e,
@@ -113,7 +111,6 @@ module _ (m n g : ℕ) where
           → take (len * m) out' ≡ widened m w (take len out) → Built out' len' (w * m) (i - 1)
       built_member out' len' e l f =
           record {
-            low = omega (arith, b.low);
             weight = next_weight;
             count = l ∙ next_count e;
             front = ap (λ (k : ℕ). take k out') l ∙ f ∙ sym (next_member e);
@@ -122,7 +119,7 @@ module _ (m n g : ℕ) where
       -- if it is not a member
       pub built_other : member (i - 1) g ≡ false → Built out len (w * m) (i - 1)
       built_other e =
-          record { low = omega (arith, b.low); weight = next_weight; count = b.count ∙ ap length same; front = b.front ∙ same }
+          record { weight = next_weight; count = b.count ∙ ap length same; front = b.front ∙ same }
         where
           same : tail m g i (n - i) ≡ tail m g (i - 1) (n - (i - 1))
           same = sym (ap (tail m g (i - 1)) steps ∙ tail_other m g (i - 1) (n - i) e ∙ ap (λ (k : ℕ). tail m g k (n - i)) back)

@@ -7,9 +7,7 @@ pub fn next_levels(m: usize, n: usize, levels: &mut [u8])
     requires { (m ≤ 256) × (n ≤ length levels.old) }
     ensures { levels.new ≡ next_levels m (take n levels.old) ++ drop n levels.old }
 {
-    let mut i = n;
-    while 0 < i {
-        i -= 1;
+    for i in (0..n).rev() {
         let l = levels[i];
         if l as usize + 1 < m {
             levels[i] = l + 1;

@@ -23,11 +23,9 @@ pub fn members(n: usize, g: usize) -> usize
 {
     let mut rest: usize = g;
     let mut count: usize = 0;
-    let mut i: usize = 0;
-    while i < n {
+    for _i in 0..n {
         count += rest % 2;
-        rest = rest / 2;
-        i += 1;
+        rest /= 2;
     }
     count
 }
@@ -44,12 +42,10 @@ pub fn first_input(n: usize, g: usize) -> usize
     requires { n ≤ 64 }
     ensures { result ≡ first_input n g }
 {
-    let mut i: usize = 0;
-    while i < n {
+    for i in 0..n {
         if member_of(g, i) {
             return i;
         }
-        i += 1;
     }
     n
 }

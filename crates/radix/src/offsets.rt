@@ -13,10 +13,8 @@ pub fn widen(out: &mut [u16], len: usize, w: u16, m: usize) -> usize
     ensures { (result ≡ len * m) × (take (len * m) out.new ≡ widened m w (take len out.old)) }
 {
     let end = len * m;
-    let mut j = len;
-    while j < end {
+    for j in len..end {
         out[j] = out[j - len] + w;
-        j += 1;
     }
     end
 }
@@ -28,17 +26,12 @@ pub fn offsets(m: usize, n: usize, g: usize, out: &mut [u16]) -> usize
 {
     let mut len: usize = 1;
     let mut w: usize = 1;
-    let mut i = n;
     out[0] = 0;
-    while 0 < i {
-        if members::member_of(g, i - 1) {
+    for i in (0..n).rev() {
+        if members::member_of(g, i) {
             len = widen(out, len, w as u16, m);
-            w = w * m;
-            i -= 1;
-        } else {
-            w = w * m;
-            i -= 1;
         }
+        w *= m;
     }
     len
 }

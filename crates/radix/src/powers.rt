@@ -11,13 +11,7 @@ pub fn power(m: usize, n: usize) -> usize
     requires { (m ≤ most_levels) × (n ≤ most_members) }
     ensures { result ≡ m ^ n }
 {
-    let mut p: usize = 1;
-    let mut i: usize = 0;
-    while i < n {
-        p = p * m;
-        i += 1;
-    }
-    p
+    m.pow(n as u32)
 }
 
 // Writes the weight of each input in an index: m to the power of the number of inputs after it.
@@ -26,11 +20,9 @@ pub fn weights(m: usize, n: usize, out: &mut [u16])
     ensures { Weights m n out.new }
 {
     let mut w: usize = 1;
-    let mut i = n;
-    while 0 < i {
-        out[i - 1] = w as u16;
-        w = w * m;
-        i -= 1;
+    for i in (0..n).rev() {
+        out[i] = w as u16;
+        w *= m;
     }
 }
 
@@ -38,17 +30,9 @@ pub fn weights(m: usize, n: usize, out: &mut [u16])
 pub fn size_fits(m: usize, n: usize) -> bool
     ensures { result ≡ size_fits m n }
 {
-    if m < limits::FEWEST_LEVELS {
-        return false;
-    }
-    if limits::MOST_LEVELS < m {
-        return false;
-    }
-    if n < limits::FEWEST_INPUTS {
-        return false;
-    }
-    if limits::MOST_INPUTS < n {
-        return false;
-    }
-    power(m, n) <= limits::MOST_CELLS
+    limits::FEWEST_LEVELS <= m
+        && m <= limits::MOST_LEVELS
+        && limits::FEWEST_INPUTS <= n
+        && n <= limits::MOST_INPUTS
+        && power(m, n) <= limits::MOST_CELLS
 }

@@ -1,8 +1,8 @@
 -- The loop of `agree` over plain numbers: the levels from input i on have been compared, and the rest of each number holds the levels before.
 -- Assumes nothing.
-use Rattle.std.specs.Prelude.{◌<◌, ◌≤◌, ◌+◌, ◌-◌, ◌^◌, ◌%◌, ◌/◌, ◌≡◌, ◌≢◌, ◌&&◌}
+use Rattle.std.specs.Prelude.{◌<◌, ◌≤◌, ◌+◌, ◌-◌, ◌^◌, ◌%◌, ◌/◌, ◌≡◌, ◌&&◌}
 use Rattle.laws.specs.Prelude.{ℕ, suc, ◌∙◌, sym, ap, true, not, true≢false, and-eq-true_iff, pow-suc}
-use Rattle.laws.specs.Prelude.{pow-zero, div-div-eq-div-mul, div-eq_of_lt, div-one, dec_lt, ℕ_discrete, arith, eq-eqb, pow-add, pow-lt}
+use Rattle.laws.specs.Prelude.{div-div-eq-div-mul, dec_lt, ℕ_discrete, arith, eq-eqb, pow-add}
 use lib.Bits.{bit_and, and_le_l}
 use Rattle.rules.specs.Sheets.Sheets.{level}
 use Rattle.rules.specs.Groups.Groups.{member, whole_group, others}
@@ -10,10 +10,6 @@ use Rattle.trees.specs.Groups.Members.{member_single, single_below, member_other
 use Rattle.radix.specs.Parts.{member_and}
 use Rattle.radix.specs.Widths.{most_members}
 use Rattle.representatives.specs.Witnesses.{Fewer, Agreed}
-
--- one input is among all inputs
-pub one_of_all : (i : ℕ) → i < most_members → 2 ^ i ≤ 65535
-one_of_all i h = let small : 2 ^ i < 2 ^ most_members = pow-lt h in omega arith
 
 -- all inputs except one
 masked : (i j r : ℕ) → i < most_members → j < most_members → member j (bit_and r (65535 - 2 ^ i)) ≡ (member j r && not (member j (2 ^ i)))
@@ -27,21 +23,6 @@ module _ (m n x y s : ℕ) where
     pub right : v ≡ y / m ^ (n - i)
     pub fewer : Fewer n s rest
     pub same : (j : ℕ) → i ≤ j → j < n → member j rest ≡ true → level m n x j ≡ level m n y j
-
-  pub agrees_none : Agrees s x y n
-  agrees_none =
-      record {
-        low = omega arith;
-        left = whole x;
-        right = whole y;
-        fewer = record { low = omega arith; inside = λ i i< e. e };
-        same = λ j low high. absurd (omega arith);
-      }
-    where
-      whole : (p : ℕ) → p ≡ p / m ^ (n - n)
-      whole p =
-          let none : n - n ≡ 0 = omega arith in
-          sym (ap (λ (k : ℕ). p / m ^ k) none ∙ ap (λ (k : ℕ). p / k) (pow-zero m) ∙ div-one p)
 
 -- one digit fewer
 next_digit : (m n p u i : ℕ) → 0 < i → i ≤ n → u ≡ p / m ^ (n - i) → u / m ≡ p / m ^ (n - (i - 1))
@@ -78,18 +59,6 @@ module _ {m n x y s rest u v i : ℕ} (so_far : Agrees m n x y s rest u v i) whe
           ∙ ap (λ (k : ℕ). k / m ^ (i - 1 - j) % m) e
           ∙ sym (level_left m n y v i j h so_far.low so_far.right)
       at j j< is (no h) = so_far.same j (omega arith) j< is
-
-  -- if they are not, an input is left
-  pub agrees_some : x < m ^ n → y < m ^ n → u ≢ v → 0 < i
-  agrees_some x< y< differ = go (ℕ_discrete i 0)
-    where
-      go : Dec (i ≡ 0) → 0 < i
-      go (yes e) =
-          let all : n - i ≡ n = omega arith in
-          absurd
-          (differ
-          (so_far.left ∙ ap (λ (k : ℕ). x / m ^ k) all ∙ div-eq_of_lt x< ∙ sym (so_far.right ∙ ap (λ (k : ℕ). y / m ^ k) all ∙ div-eq_of_lt y<)))
-      go (no ne) = omega arith
 
   module _ (some : 0 < i) where
     -- the last remaining input has the same level, ..

@@ -1,7 +1,7 @@
 -- Columns given as heads and a run: each head plus each number below the run. The cells of a row at the columns of one head are neighbours.
 -- Assumes nothing.
-use Rattle.std.specs.Prelude.{◌<◌, ◌≤◌, ◌+◌, ◌*◌, ◌%◌, ◌/◌, ◌≡◌, ◌≢◌}
-use Rattle.laws.specs.Prelude.{ℕ, ◌∙◌, sym, ap, subst, ap₂, true, List, map, Memᴰ, zero-add, zero-mul, mod-lt}
+use Rattle.std.specs.Prelude.{◌<◌, ◌≤◌, ◌+◌, ◌-◌, ◌*◌, ◌%◌, ◌/◌, ◌≡◌, ◌≢◌, Option, Some, None}
+use Rattle.laws.specs.Prelude.{ℕ, ◌∙◌, sym, ap, subst, add-zero, ap₂, true, List, map, Memᴰ, zero-add, zero-mul, mod-lt}
 use Rattle.laws.specs.Prelude.{div-lt_iff_lt-mul, mul_comm, mul-one, add_assoc, mul-zero, mod-eq_of_lt, div-eq_of_lt, dec_lt, ℕ_discrete, arith, eqb}
 use Rattle.laws.specs.Prelude.{length, get_or, eq-eqb, digits_lt, digits_mod, digits_div}
 use Rattle.rules.specs.Lists.{range}
@@ -10,9 +10,7 @@ use Rattle.laws.specs.Lists.Ranges.{map_range_length, map_range_at, map_range_sa
 use Rattle.laws.specs.Lists.Tests.{mem_all}
 use Rattle.laws.specs.Lists.Places.{mem_place}
 use Rattle.classes.specs.Within.{Within}
-use Rattle.classes.specs.declared.differences.Difference.{Difference}
-use Rattle.classes.specs.declared.differences.Difference.TheVariants.{None, At}
-use Rattle.representatives.specs.Runs.{RunApart}
+use Rattle.representatives.specs.Runs.{SameRuns, RunApart}
 
 unfoldable pub columns_of : ℕ → List ℕ → List ℕ
 columns_of run hs = map (λ k. get_or hs (k % length hs) 0 + k / length hs) (range 0 (length hs * run))
@@ -22,9 +20,9 @@ abbrev pub Column : List ℕ → ℕ → Type 0
 Column ys y = (k : ℕ) × (k < length ys) × (get_or ys k 0 ≡ y)
 
 -- the result of comparing two rows: they are alike, or a column at which they differ
-abbrev pub ApartBy : (ℕ → ℕ) → List ℕ → ℕ → ℕ → Difference → Type 0
+abbrev pub ApartBy : (ℕ → ℕ) → List ℕ → ℕ → ℕ → Option ℕ → Type 0
 ApartBy f ys p q None = alike_over f ys p q ≡ true
-ApartBy f ys p q (At y) = Column ys y × f (p + y) ≢ f (q + y)
+ApartBy f ys p q (Some y) = Column ys y × f (p + y) ≢ f (q + y)
 
 -- a row plus a column is below the bound
 pub column_within : {b : ℕ} (ys : List ℕ) (p : ℕ) {y : ℕ} → Within b ys p → Column ys y → p + y < b
@@ -64,6 +62,15 @@ module _ (run : ℕ) (hs : List ℕ) where
         columns_at (z * length hs + j) inside ∙ ap₂ (λ (a b : ℕ). get_or hs a 0 + b) (digits_mod z j<) (digits_div z j<),
       )
 
+  -- the first head is a column
+  pub column_first : 0 < length (columns_of run hs) → Column (columns_of run hs) (get_or hs 0 0)
+  column_first some =
+      let there = columns_some some in subst (Column (columns_of run hs)) (add-zero (get_or hs 0 0)) (column_there 0 0 there.0 there.1)
+
+  -- a row's runs lie inside the cells
+  pub run_within : {b : ℕ} (p j : ℕ) → 0 < run → j < length hs → Within b (columns_of run hs) p → p + get_or hs j 0 + run ≤ b
+  run_within p j some j< within = omega (arith, column_within (columns_of run hs) p within (column_there j (run - 1) j< (omega arith)))
+
   -- rows that are equal in each head's run are alike
   pub runs_alike : (f : ℕ → ℕ) (p q : ℕ) → ((j z : ℕ) → j < length hs → z < run → f (p + (get_or hs j 0 + z)) ≡ f (q + (get_or hs j 0 + z)))
       → alike_over f (columns_of run hs) p q ≡ true
@@ -83,18 +90,20 @@ module _ (run : ℕ) (hs : List ℕ) where
 abbrev pub SameHeads : (ℕ → ℕ) → ℕ → List ℕ → ℕ → ℕ → ℕ → Type 0
 SameHeads f run hs p q k = (j z : ℕ) → j < k → z < run → f (p + (get_or hs j 0 + z)) ≡ f (q + (get_or hs j 0 + z))
 
-module _ (f : ℕ → ℕ) (run : ℕ) (hs : List ℕ) (p q k : ℕ) {z : ℕ} (apart : RunApart f (p + get_or hs k 0) (q + get_or hs k 0) run z) where
+module _ (f : ℕ → ℕ) (run : ℕ) (hs : List ℕ) (p q k : ℕ) where
   -- one more head
-  pub heads_next : run ≤ z → SameHeads f run hs p q k → SameHeads f run hs p q (k + 1)
-  heads_next all so_far j i h i< = go (ℕ_discrete j k)
+  pub heads_next : SameRuns f (p + get_or hs k 0) (q + get_or hs k 0) run → SameHeads f run hs p q k → SameHeads f run hs p q (k + 1)
+  heads_next same so_far j i h i< = go (ℕ_discrete j k)
     where
       go : Dec (j ≡ k) → f (p + (get_or hs j 0 + i)) ≡ f (q + (get_or hs j 0 + i))
-      go (yes e) = rw (e, sym (add_assoc p (get_or hs k 0) i), sym (add_assoc q (get_or hs k 0) i)) (apart.same i (omega arith))
+      go (yes e) = rw (e, sym (add_assoc p (get_or hs k 0) i), sym (add_assoc q (get_or hs k 0) i)) (same i i<)
       go (no ne) = so_far j i (omega arith) i<
 
   -- or a column that distinguishes the two
-  pub run_differs : z < run → k < length hs → Column (columns_of run hs) (get_or hs k 0 + z) × f (p + (get_or hs k 0 + z)) ≢ f (q + (get_or hs k 0 + z))
-  run_differs low k< = (column_there run hs k z k< low, λ e. apart.differ low (rw (add_assoc p (get_or hs k 0) z, add_assoc q (get_or hs k 0) z) e))
+  pub run_differs : {z : ℕ} → RunApart f (p + get_or hs k 0) (q + get_or hs k 0) run z → k < length hs
+      → Column (columns_of run hs) (get_or hs k 0 + z) × f (p + (get_or hs k 0 + z)) ≢ f (q + (get_or hs k 0 + z))
+  run_differs {z} apart k< =
+      (column_there run hs k z k< apart.low, λ e. apart.differ (rw (add_assoc p (get_or hs k 0) z, add_assoc q (get_or hs k 0) z) e))
 
 -- with a run of one the columns are the heads
 pub columns_one : (hs : List ℕ) → columns_of 1 hs ≡ hs

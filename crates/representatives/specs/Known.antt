@@ -2,7 +2,7 @@
 -- and in the first two places the inputs at which its witness columns agree, and a group inside it with few classes.
 -- Assumes nothing.
 use Rattle.std.specs.Prelude.{◌<◌, ◌≤◌, ◌+◌, ◌^◌, ◌*◌, ◌≡◌}
-use Rattle.laws.specs.Prelude.{ℕ, ◌∙◌, sym, subst, subst⁻¹, List, mul-le-mul_right, suc-mul, le_trans, dec_lt, ℕ_discrete}
+use Rattle.laws.specs.Prelude.{ℕ, ◌∙◌, sym, subst, subst⁻¹, List, mul-le-mul_right, suc-mul, le_trans, ℕ_discrete}
 use Rattle.laws.specs.Prelude.{arith, length, get_or, set, get_or-set_same, get_or-set_other}
 use Rattle.std.proofs.lemmas.Nat.{and_le_r}
 use Rattle.rules.specs.Groups.Groups.{size, multiplicity}
@@ -46,14 +46,6 @@ module _ {m n : ℕ} {f : ℕ → ℕ} {counts kept : List ℕ} {g count : ℕ} 
 
   pub found_many : count ≡ 0 → m < multiplicity m n f g
   found_many none = omega (arith, told_many m n pos f g (get_or kept (g * m) 0) (m + 1) g< (found.many none))
-
--- the number is at most m
-pub found_most : {m n : ℕ} {f : ℕ → ℕ} {counts kept : List ℕ} {g count : ℕ} → Found m n f counts kept g count → count ≤ m
-found_most {m} {count} found = go (dec_lt 0 count)
-  where
-    go : Dec (0 < count) → count ≤ m
-    go (yes some) = (found.few some).most
-    go (no none) = omega arith
 
 -- what is known stays known when the places of later groups are written
 module _ {m n : ℕ} {f : ℕ → ℕ} {counts before : List ℕ} {h : ℕ} (levels : 1 < m) (known : Known m n f counts before h) where

@@ -38,25 +38,6 @@ places_fit m (suc n) levels some =
       ap (λ (k : ℕ). k * m) (pow-suc 2 n) ∙ mul_assoc (2 ^ n) 2 m ∙ ap (λ (k : ℕ). 2 ^ n * k) (mul_comm 2 m) ∙ sym (mul_assoc (2 ^ n) m 2),
     )
 
--- only their lengths matter
-pub work_same : {m n : ℕ} {cells weights counts kept xs ys firsts counts' kept' xs' ys' firsts' : List ℕ} → Work m n cells weights counts kept xs ys firsts
-    → length counts' ≡ length counts → length kept' ≡ length kept → length xs' ≡ length xs → length ys' ≡ length ys → length firsts' ≡ length firsts
-    → Work m n cells weights counts' kept' xs' ys' firsts'
-work_same work counts_long kept_long xs_long ys_long firsts_long =
-    record {
-      levels = work.levels;
-      inputs = work.inputs;
-      small = work.small;
-      for_cells = work.for_cells;
-      weighed = work.weighed;
-      all_weighed = work.all_weighed;
-      for_counts = omega (arith, work.for_counts);
-      for_kept = omega (arith, work.for_kept);
-      for_xs = omega (arith, work.for_xs);
-      for_ys = omega (arith, work.for_ys);
-      for_firsts = omega (arith, work.for_firsts);
-    }
-
 -- `past` is a power of two that is at least g and at most 2g; it is 1 if g is 0
 pub record Near (n g past : ℕ) : Type 0 where
   pub end : ℕ

@@ -1,7 +1,7 @@
 -- Columns that distinguish rows, and the inputs at which they have the same levels as one of them.
 -- Assumes nothing.
 use Rattle.std.specs.Prelude.{◌<◌, ◌≤◌, ◌+◌, ◌-◌, ◌^◌, ◌≡◌, ◌≢◌}
-use Rattle.laws.specs.Prelude.{ℕ, ◌∙◌, sym, refl, subst⁻¹, true, false, false≢true, List, ℕ_discrete, arith, length, get_or}
+use Rattle.laws.specs.Prelude.{ℕ, ◌∙◌, sym, subst⁻¹, true, false, false≢true, List, ℕ_discrete, arith, length, get_or}
 use Rattle.rules.specs.Groups.Groups.{member, alike_over}
 use Rattle.trees.specs.Groups.Members.{member_zero}
 use Rattle.trees.specs.Groups.Told.{SameAt}
@@ -41,9 +41,6 @@ pub record ToldOne (m n : ℕ) (f : ℕ → ℕ) (ys : List ℕ) (base p q s r :
   pub fewer : Fewer n s r
   pub tells : Distinguishes m n f ys base p q r
 
-pub fewer_none : (n s : ℕ) → Fewer n s s
-fewer_none n s = record { low = omega arith; inside = λ i i< is. is }
-
 pub fewer_on : {n s r t : ℕ} → Fewer n s r → Fewer n r t → Fewer n s t
 fewer_on a b = record { low = omega (arith, a.low, b.low); inside = λ i i< is. a.inside i i< (b.inside i i< is) }
 
@@ -53,15 +50,7 @@ module _ {m n : ℕ} {f : ℕ → ℕ} {ys : List ℕ} {base p q : ℕ} where
   tells_fewer fewer tells =
       record { column = tells.column; there = tells.there; same = λ i i< is. tells.same i i< (fewer.inside i i< is); differ = tells.differ }
 
-  -- the column `base` distinguishes the two, ..
-  pub told_here : (s : ℕ) → Column ys base → f (p + base) ≢ f (q + base) → ToldOne m n f ys base p q s s
-  told_here s there differ = record { fewer = fewer_none n s; tells = record { column = base; there = there; same = λ i i< is. refl; differ = differ } }
-
-  -- .. or another does, ..
-  pub told_there : {y s r : ℕ} → Column ys y → f (p + y) ≢ f (q + y) → Agreed m n y base s r → ToldOne m n f ys base p q s r
-  told_there {y} there differ agreed = record { fewer = agreed.fewer; tells = record { column = y; there = there; same = agreed.same; differ = differ } }
-
-  -- .. and if s has no input, any column will do
+  -- if s has no input, any column will do
   pub told_any : {s : ℕ} → s ≡ 0 → alike_over f ys p q ≡ false → ToldOne m n f ys base p q s 0
   told_any {s} none unlike =
       let (y, there, differ) = unlike_column f ys p q unlike in
@@ -75,9 +64,6 @@ pub record ToldRow (m n : ℕ) (f : ℕ → ℕ) (ys : List ℕ) (base p : ℕ) 
   pub tells : (j : ℕ) → j < count → Distinguishes m n f ys base p (get_or firsts j 0) r
 
 module _ {m n : ℕ} {f : ℕ → ℕ} {ys : List ℕ} {base p : ℕ} {firsts : List ℕ} where
-  pub row_none : (s : ℕ) → ToldRow m n f ys base p firsts 0 s s
-  row_none s = record { fewer = fewer_none n s; tells = λ j h. absurd (omega arith) }
-
   -- one more row
   pub row_next : {j s r t : ℕ} → ToldRow m n f ys base p firsts j s r → ToldOne m n f ys base p (get_or firsts j 0) r t
       → ToldRow m n f ys base p firsts (j + 1) s t
@@ -123,7 +109,3 @@ module _ {m n : ℕ} {f : ℕ → ℕ} {ys firsts : List ℕ} {base : ℕ} where
       at : (j i : ℕ) → j < i → k - 1 < i → i ≤ m → Dec (i ≡ k) → Distinguishes m n f ys base (get_or firsts i 0) (get_or firsts j 0) t
       at j i h after i≤ (yes e) = subst⁻¹ (λ (l : ℕ). Distinguishes m n f ys base (get_or firsts l 0) (get_or firsts j 0) t) e (row.tells j (omega arith))
       at j i h after i≤ (no ne) = tells_fewer row.fewer (so_far.tells j i h (omega arith) i≤)
-
-  -- all rows
-  pub from_all : {k r : ℕ} → k ≤ 0 → Column ys base → ToldFrom m n f ys firsts base k r → ToldAll m n f ys firsts r
-  from_all none there so_far = record { low = so_far.low; base = base; there = there; tells = λ j i h i≤. so_far.tells j i h (omega arith) i≤ }

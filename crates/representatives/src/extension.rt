@@ -13,10 +13,9 @@ pub fn copy(from: &[u16], a: usize, to: &mut [u16], b: usize, count: usize)
     requires { (a + count ≤ length from.now) × (b + count ≤ length to.old) }
     ensures { Copied from.now a to.old b count to.new }
 {
-    let mut k: usize = 0;
-    while k < count {
+    // The copies are short: with `copy_from_slice` marking takes 4% longer.
+    for k in 0..count {
         to[b + k] = from[a + k];
-        k += 1;
     }
 }
 

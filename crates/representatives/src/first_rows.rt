@@ -1,5 +1,5 @@
 // The first of each class among rows of a group that columns distinguish.
-ghost use Rattle.std.specs.Prelude.{◌≡◌, ℕ, ◌+◌, ◌≤◌, ◌<◌, length, take, get_or};
+ghost use Rattle.std.specs.Prelude.{◌≡◌, ℕ, ◌+◌, ◌≤◌, ◌<◌, length, ltb, take, get_or};
 ghost use Rattle.rules.specs.Lists.{first_place};
 ghost use Rattle.rules.specs.Groups.Groups.{alike_over};
 ghost use Rattle.rules.specs.Calls.Answers.{ink_in};
@@ -10,7 +10,6 @@ ghost use Rattle.representatives.specs.Columns.{columns_of, Column};
 ghost use Rattle.representatives.specs.FirstRows.{RowsFit};
 
 use crate::rows;
-use classes::differences::Difference;
 
 // Returns whether the ink is the same at p and at q for each of the columns. Tries the column `hint` first, because it distinguished other rows.
 fn alike_by(cells: &[u8], heads: &[u16], run: usize, p: usize, q: usize, hint: usize) -> bool
@@ -21,15 +20,11 @@ fn alike_by(cells: &[u8], heads: &[u16], run: usize, p: usize, q: usize, hint: u
     if cells[p + hint] != cells[q + hint] {
         return false;
     }
-    let found = rows::column_apart(cells, heads, run, p, q);
-    match found {
-        Difference::None => true,
-        Difference::At(_) => false,
-    }
+    rows::column_apart(cells, heads, run, p, q).is_none()
 }
 
-// Returns the number of p's class, or `count` if p is in none. The first `count` of `firsts` are the first rows of the classes.
-fn class_of(
+// Returns whether p is in one of the classes whose first rows are the first `count` of `firsts`.
+fn is_known(
     cells: &[u8],
     heads: &[u16],
     run: usize,
@@ -37,20 +32,18 @@ fn class_of(
     count: usize,
     p: usize,
     hint: usize,
-) -> usize
+) -> bool
     requires { (0 < run) × (Column (columns_of run heads.now) hint) × (count ≤ length firsts.now)
         × (Within (length cells.now) (columns_of run heads.now) p)
         × ((j : ℕ) → j < count → Within (length cells.now) (columns_of run heads.now) (get_or firsts.now j 0)) }
-    ensures { result ≡ first_place (alike_over (ink_in cells.now) (columns_of run heads.now) p) (take count firsts.now) }
+    ensures { result ≡ ltb (first_place (alike_over (ink_in cells.now) (columns_of run heads.now) p) (take count firsts.now)) count }
 {
-    let mut j: usize = 0;
-    while j < count {
-        if alike_by(cells, heads, run, p, firsts[j] as usize, hint) {
-            return j;
+    for q in &firsts[..count] {
+        if alike_by(cells, heads, run, p, *q as usize, hint) {
+            return true;
         }
-        j += 1;
     }
-    count
+    false
 }
 
 // Puts the first of each class among the rows xs to the front of `firsts`, stops at m + 1 of them, and returns how many it put.
@@ -69,21 +62,18 @@ pub fn row_firsts(
     firsts[0] = xs[0];
     let mut count: usize = 1;
     let mut hint = heads[0] as usize;
-    let mut i: usize = 1;
-    while i < xs.len() {
-        let p = xs[i];
-        if class_of(cells, heads, run, firsts, count, p as usize, hint) < count {
-            i += 1;
-        } else {
-            let q = firsts[count - 1];
-            firsts[count] = p;
-            if count == m {
-                return count + 1;
-            }
-            hint = rows::place_apart(cells, heads, run, p as usize, q as usize, hint);
-            count += 1;
-            i += 1;
+    for p in &xs[1..] {
+        let row = *p as usize;
+        if is_known(cells, heads, run, firsts, count, row, hint) {
+            continue;
         }
+        let last = firsts[count - 1] as usize;
+        firsts[count] = *p;
+        if count == m {
+            return count + 1;
+        }
+        hint = rows::place_apart(cells, heads, run, row, last, hint);
+        count += 1;
     }
     count
 }

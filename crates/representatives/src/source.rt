@@ -9,10 +9,7 @@ pub fn passes_on(m: usize, counts: &[u8], kept: &[u16], h: usize, bit: usize) ->
     requires { (h < length counts.now) × (h * m < length kept.now) }
     ensures { PassesOn m counts.now kept.now h bit result }
 {
-    if counts[h] != 0 {
-        return false;
-    }
-    kept[h * m] as usize & bit != 0
+    counts[h] == 0 && kept[h * m] as usize & bit != 0
 }
 
 // Returns a member of g, as a group: preferably one whose removal leaves too many classes that pass on to g, else one whose removal leaves few.

@@ -20,9 +20,10 @@ fn agree(m: usize, n: usize, x: usize, y: usize, s: usize) -> usize
     let mut rest = s;
     let mut u = x;
     let mut v = y;
-    let mut i = n;
-    while u != v {
-        i -= 1;
+    for i in (0..n).rev() {
+        if u == v {
+            break;
+        }
         if u % m != v % m {
             rest = rest & (ALL - (1 << i));
         }
@@ -76,10 +77,8 @@ fn agreeing_in_row(
     ensures { ToldRow m n (ink_in cells.now) (columns_of run heads.now) base p firsts.now count s result }
 {
     let mut rest = s;
-    let mut j: usize = 0;
-    while j < count {
-        rest = agreeing_inputs(m, n, cells, heads, run, p, firsts[j] as usize, base, rest);
-        j += 1;
+    for q in &firsts[..count] {
+        rest = agreeing_inputs(m, n, cells, heads, run, p, *q as usize, base, rest);
     }
     rest
 }
@@ -106,8 +105,7 @@ pub fn agreeing_in_all(
         heads[0] as usize,
     );
     let mut rest = s;
-    let mut k = m;
-    while 0 < k {
+    for k in (1..=m).rev() {
         rest = agreeing_in_row(
             m,
             n,
@@ -120,7 +118,6 @@ pub fn agreeing_in_all(
             base,
             rest,
         );
-        k -= 1;
     }
     rest
 }

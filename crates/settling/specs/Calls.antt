@@ -1,6 +1,6 @@
 -- Settling and making with either choice of a net: their results, and how the calls of document 01 and of the shallow net follow from them.
 -- Assumes nothing.
-use Rattle.std.specs.Prelude.{◌-◌, ◌^◌, ◌≡◌}
+use Rattle.std.specs.Prelude.{◌-◌, ◌^◌, ◌≡◌, Result}
 use Rattle.laws.specs.Prelude.{ℕ, ◌∙◌, sym, ap, refl, List, take}
 use Rattle.rules.specs.Sheets.Sheets.{Table}
 use Rattle.rules.specs.Sheets.Sheets as sheets
@@ -12,8 +12,8 @@ use Rattle.rules.specs.Calls.ShallowSettling.{LayeredMade, layered_into, make_sh
 use Rattle.laws.specs.Calls.Settling.{settle_accepted, settle_refused, make_accepted, make_refused}
 use Rattle.laws.specs.Calls.ShallowSettling.{plain_answer, plain_made, plain_made_lem, settle_shallow_refused, settle_shallow_accepted}
 use Rattle.laws.specs.Calls.ShallowSettling.{make_shallow_refused, make_shallow_accepted}
-use Rattle.answers.specs.declared.answer.Answer as own_answer
 use Rattle.answers.specs.declared.layered.Layered as own
+use Rattle.answers.specs.declared.refusal.Refusal.{Refusal}
 use Rattle.answers.specs.AnswerMaps.{answer_of, made_of}
 use Rattle.answers.specs.Layered.{layered_of, layered_made_of}
 use Rattle.nets.specs.declared.forms.Header.{Header}
@@ -100,7 +100,7 @@ module _ (s cells marks output : List ℕ) where
           ap plain_made (makes_refused Settled s cells marks output number place e) ∙ sym (make_refused s cells marks output number place e)
 
 -- a call's answer without its count, and the call's buffers
-module _ (r : own.Layered) (answer : own_answer.Answer) (alone : answer_of answer ≡ plain_answer (layered_of r)) (cells marks output : List ℕ) (made : LayeredMade)
+module _ (r : Result own.Layered Refusal) (answer : Result ℕ Refusal) (alone : answer_of answer ≡ plain_answer (layered_of r)) (cells marks output : List ℕ) (made : LayeredMade)
     (is : layered_made_of r cells marks output ≡ made) where
   pub made_plain : made_of answer cells marks output ≡ plain_made made
   unfolding plain_made

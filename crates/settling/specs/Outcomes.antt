@@ -1,6 +1,6 @@
 -- A table, given by a header's names in a sheet and its inks: what making a net from it requires, and the outcomes.
 -- Assumes nothing.
-use Rattle.std.specs.Prelude.{◌<◌, ◌≤◌, ◌^◌, ◌≡◌}
+use Rattle.std.specs.Prelude.{◌<◌, ◌≤◌, ◌^◌, ◌≡◌, Result}
 use Rattle.laws.specs.Prelude.{ℕ, ◌∙◌, sym, ap, refl, ap₂, subst⁻¹, subst₂, true, List, length}
 use Rattle.rules.specs.Limits.{size_fits, most_settled}
 use Rattle.rules.specs.Sheets.Printed.{printed_net}
@@ -20,7 +20,7 @@ use Rattle.nets.specs.declared.forms.Net as own
 use Rattle.nets.specs.Sound.{Sound}
 use Rattle.nets.specs.Forms.{gates_of, header_of, net_in, table_in}
 use Rattle.laws.specs.Numbers.Sizes.{kept_fits}
-use Rattle.answers.specs.declared.answer.Answer.{Answer}
+use Rattle.answers.specs.declared.refusal.Refusal.{Refusal}
 use Rattle.marks.specs.Marking.{MarkedInto}
 use Rattle.net_sheets.specs.Printer.Gates.{GatesInside}
 use Rattle.net_sheets.specs.Printer.Kept.{gates_inside}
@@ -54,7 +54,7 @@ unfolding with_layers layered onward
 refused_layers count number place cells marks output = refl
 
 -- the answer to writing a sheet, with a count of layers
-pub written_layers : (answer : answers.Answer shallow.Layered) (count : ℕ) (r : Answer) → answer ≡ layered count (answer_of r) → (own : ℕ) → count ≡ own
+pub written_layers : (answer : answers.Answer shallow.Layered) (count : ℕ) (r : Result ℕ Refusal) → answer ≡ layered count (answer_of r) → (own : ℕ) → count ≡ own
     → (cells marks after : List ℕ) (made : Made) → made_of r cells marks after ≡ made
     → record { answer = answer; cells = cells; marks = marks; output = after } ≡ with_layers own made
 unfolding with_layers
@@ -148,7 +148,7 @@ module _ (s : List ℕ) (h : Header) (inks : List ℕ) (given : Given s h inks) 
           (sym (marked_16 (net_by choice) (table_in s h inks) cells marks output (λ two. other (did.own.answer ∙ two))))
 
     pub given_tree : (choice : Choice) (cells cells_then output : List ℕ) → cells_then ≡ written cells inks → mark ≡ 2
-        → (net : own.Net) → MadeNet choice h.levels h.inputs (ink_in inks) net → (answer : Layered) (after : List ℕ)
+        → (net : own.Net) → MadeNet choice h.levels h.inputs (ink_in inks) net → (answer : Result Layered Refusal) (after : List ℕ)
         → layered_made_of answer cells_then marks_then after
         ≡ with_layers (layers net.inputs (gates_of net)) (written_sheet (printed_net (net_in s h net)) cells_then marks_then output)
         → layered_made_of answer cells_then marks_then after

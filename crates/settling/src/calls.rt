@@ -6,22 +6,24 @@ ghost use Rattle.answers.specs.AnswerMaps.{answer_of, made_of};
 ghost use Rattle.answers.specs.Layered.{layered_of};
 
 use crate::chosen;
-use answers::answer::Answer;
 use answers::layered::Layered;
+use answers::refusal::Refusal;
 use wirings::choice::Choice;
 
 // Drops the count of layers from an answer.
-pub fn length_alone(answer: Layered) -> Answer
+pub fn length_alone(answer: Result<Layered, Refusal>) -> Result<usize, Refusal>
     ensures { answer_of result ≡ plain_answer (layered_of answer) }
 {
-    match answer {
-        Layered::Accepted { length, layers } => Answer::Accepted(length),
-        Layered::Refused { number, place } => Answer::Refused { number, place },
-    }
+    Ok(answer?.length)
 }
 
 // Reads a net sheet, and writes its table, its marks and its settled net sheet.
-pub fn settle(s: &[u8], cells: &mut [u8], marks: &mut [u8], out: &mut [u8]) -> Answer
+pub fn settle(
+    s: &[u8],
+    cells: &mut [u8],
+    marks: &mut [u8],
+    out: &mut [u8],
+) -> Result<usize, Refusal>
     ensures { made_of result cells.new marks.new out.new
         ≡ settle_call s.now cells.old marks.old out.old }
 {
@@ -29,7 +31,7 @@ pub fn settle(s: &[u8], cells: &mut [u8], marks: &mut [u8], out: &mut [u8]) -> A
 }
 
 // Reads a table sheet, and writes its table, its marks and its settled net sheet.
-pub fn make(s: &[u8], cells: &mut [u8], marks: &mut [u8], out: &mut [u8]) -> Answer
+pub fn make(s: &[u8], cells: &mut [u8], marks: &mut [u8], out: &mut [u8]) -> Result<usize, Refusal>
     ensures { made_of result cells.new marks.new out.new
         ≡ make_call s.now cells.old marks.old out.old }
 {

@@ -8,7 +8,7 @@ use crate::input::read_input;
 use crate::into;
 use crate::marked::settle_marked;
 use answers::layered::Layered;
-use answers::outcome::Outcome;
+use answers::refusal::Refusal;
 use evaluation::table;
 use net_sheets::reader::net;
 use nets::forms::{Header, Net};
@@ -24,7 +24,7 @@ fn settle_net(
     cells: &mut [u8],
     marks: &mut [u8],
     out: &mut [u8],
-) -> Layered
+) -> Result<Layered, Refusal>
     requires { NetTaken s.now header gates }
     ensures { layered_made_of result cells.new marks.new out.new
         ≡ settles_by choice s.now cells.old marks.old out.old }
@@ -41,16 +41,12 @@ pub fn settle_by(
     cells: &mut [u8],
     marks: &mut [u8],
     out: &mut [u8],
-) -> Layered
+) -> Result<Layered, Refusal>
     ensures { layered_made_of result cells.new marks.new out.new
         ≡ settles_by choice s.now cells.old marks.old out.old }
 {
-    let read = net::read_net(s);
-    let outcome = read.outcome;
-    match outcome {
-        Outcome::Refused { number, place } => Layered::Refused { number, place },
-        Outcome::Accepted => settle_net(choice, s, read.header, read.net, cells, marks, out),
-    }
+    let read = net::read_net(s)?;
+    settle_net(choice, s, read.header, read.net, cells, marks, out)
 }
 
 // Reads a table sheet, and writes its table, its marks and the sheet of the net made from it.
@@ -60,18 +56,19 @@ pub fn make_by(
     cells: &mut [u8],
     marks: &mut [u8],
     out: &mut [u8],
-) -> Layered
+) -> Result<Layered, Refusal>
     ensures { layered_made_of result cells.new marks.new out.new
         ≡ makes_by choice s.now cells.old marks.old out.old }
 {
     let mut inks = [0u8; limits::MOST_CELLS];
-    let input = read_input(s, &mut inks, cells, marks);
-    let outcome = input.outcome;
-    let count = input.count;
-    match outcome {
-        Outcome::Refused { number, place } => Layered::Refused { number, place },
-        Outcome::Accepted => {
-            settle_marked(choice, s, input.header, &inks[0..count], cells, marks, out)
-        }
-    }
+    let input = read_input(s, &mut inks, cells, marks)?;
+    settle_marked(
+        choice,
+        s,
+        input.header,
+        &inks[0..input.count],
+        cells,
+        marks,
+        out,
+    )
 }

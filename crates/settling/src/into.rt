@@ -9,7 +9,7 @@ ghost use Rattle.settling.specs.Outcomes.{net_by};
 use crate::marked::settle_marked;
 use crate::room::room;
 use answers::layered::Layered;
-use answers::outcome::Outcome;
+use answers::refusal::Refusal;
 use nets::forms::Header;
 use wirings::choice::Choice;
 
@@ -22,14 +22,11 @@ pub fn settle_into(
     cells: &mut [u8],
     marks: &mut [u8],
     out: &mut [u8],
-) -> Layered
+) -> Result<Layered, Refusal>
     requires { Given s.now header inks.now }
     ensures { layered_made_of result cells.new marks.new out.new
         ≡ layered_into (net_by choice) (table_in s.now header inks.now) cells.old marks.old out.old }
 {
-    let judged = room(header, inks, cells, marks);
-    match judged {
-        Outcome::Refused { number, place } => Layered::Refused { number, place },
-        Outcome::Accepted => settle_marked(choice, s, header, inks, cells, marks, out),
-    }
+    room(header, inks, cells, marks)?;
+    settle_marked(choice, s, header, inks, cells, marks, out)
 }

@@ -14,8 +14,8 @@ ghost use Rattle.answers.specs.Layered.{layered_made_of};
 ghost use Rattle.accepted.specs.Taken.{Given};
 ghost use Rattle.settling.specs.Outcomes.{net_by};
 
-use answers::answer::Answer;
 use answers::layered::Layered;
+use answers::refusal::{Kind, Refusal};
 use gate_tables::made;
 use marks::{all_groups, no_tree, own};
 use net_sheets::printer::output;
@@ -26,16 +26,14 @@ use wirings::choice::Choice;
 use wirings::leaves::group;
 
 // Writes the sheet of a net and returns its length with the count of layers, or refuses with 15.
-fn write_layered(s: &[u8], header: Header, net: Net, out: &mut [u8]) -> Layered
+fn write_layered(s: &[u8], header: Header, net: Net, out: &mut [u8]) -> Result<Layered, Refusal>
     requires { NamesInside s.now header × GatesInside net × (length (printed_net (net_in s.now header net)) ≤ most_settled) × Sound net }
     ensures { (cells marks : List ℕ) → layered_made_of result cells marks out.new ≡ with_layers (layers net.inputs (gates_of net))
         (written_sheet (printed_net (net_in s.now header net)) cells marks out.old) }
 {
     let layers = layers::layers(net);
-    match output::write_sheet(s, header, net, out) {
-        Answer::Accepted(length) => Layered::Accepted { length, layers },
-        Answer::Refused { number, place } => Layered::Refused { number, place },
-    }
+    let length = output::write_sheet(s, header, net, out)?;
+    Ok(Layered { length, layers })
 }
 
 // Writes the cells and the marks, then the sheet of the net; or refuses with 16 or 15.
@@ -47,7 +45,7 @@ pub fn settle_marked(
     cells: &mut [u8],
     marks: &mut [u8],
     out: &mut [u8],
-) -> Layered
+) -> Result<Layered, Refusal>
     requires { Given s.now header inks.now × (length inks.now ≤ length cells.old) × (marks_length header.inputs ≤ length marks.old) }
     ensures { layered_made_of result cells.new marks.new out.new
         ≡ with_layers (net_layers (net_by choice (table_in s.now header inks.now)))
@@ -59,10 +57,10 @@ pub fn settle_marked(
     let mut own = [0u8; own::MOST_GROUPS];
     let marked = all_groups::mark_and_store(levels, inputs, inks, &mut own, marks);
     if marked.mark != 2 {
-        return Layered::Refused {
-            number: 16,
+        return Err(Refusal {
+            kind: Kind::NoTree,
             place: no_tree::no_tree_place(inputs, &own),
-        };
+        });
     }
     let leaves = group::leaves(inputs, marked.idle);
     let net = made::made_net(choice, levels, inputs, inks, &own, leaves);

@@ -5,28 +5,28 @@ ghost use Rattle.rules.specs.Calls.Settling.{room_for};
 ghost use Rattle.nets.specs.Forms.{table_in};
 ghost use Rattle.answers.specs.AnswerMaps.{outcome_as};
 
-use answers::outcome::Outcome;
+use answers::refusal::{Kind, Refusal};
 use marks::packing;
 use nets::forms::Header;
 
 // Checks whether the cells and the marks buffer are long enough. `inks` is the table, and `header` has its levels and inputs.
-pub fn room(header: Header, inks: &[u8], cells: &[u8], marks: &[u8]) -> Outcome
+pub fn room(header: Header, inks: &[u8], cells: &[u8], marks: &[u8]) -> Result<(), Refusal>
     requires { (size_fits header.levels header.inputs ≡ true) × (length inks.now ≡ header.levels ^ header.inputs) }
     ensures { (s : List ℕ) → outcome_as tt result ≡ room_for (table_in s header inks.now) cells.now marks.now }
 {
     let need = inks.len();
     if cells.len() < need {
-        return Outcome::Refused {
-            number: 13,
+        return Err(Refusal {
+            kind: Kind::CellsShort,
             place: need,
-        };
+        });
     }
     let marks_need = packing::marks_length(header.inputs);
     if marks.len() < marks_need {
-        return Outcome::Refused {
-            number: 14,
+        return Err(Refusal {
+            kind: Kind::MarksShort,
             place: marks_need,
-        };
+        });
     }
-    Outcome::Accepted
+    Ok(())
 }

@@ -5,10 +5,16 @@ ghost use Rattle.answers.specs.Layered.{layered_made_of};
 
 use crate::chosen;
 use answers::layered::Layered;
+use answers::refusal::Refusal;
 use wirings::choice::Choice;
 
 // Reads a net sheet, and writes its table, its marks and its shallow net sheet. The answer carries the count of layers.
-pub fn settle_shallow(s: &[u8], cells: &mut [u8], marks: &mut [u8], out: &mut [u8]) -> Layered
+pub fn settle_shallow(
+    s: &[u8],
+    cells: &mut [u8],
+    marks: &mut [u8],
+    out: &mut [u8],
+) -> Result<Layered, Refusal>
     ensures { layered_made_of result cells.new marks.new out.new
         ≡ settle_shallow_call s.now cells.old marks.old out.old }
 {
@@ -16,7 +22,12 @@ pub fn settle_shallow(s: &[u8], cells: &mut [u8], marks: &mut [u8], out: &mut [u
 }
 
 // Reads a table sheet, and writes its table, its marks and its shallow net sheet. The answer carries the count of layers.
-pub fn make_shallow(s: &[u8], cells: &mut [u8], marks: &mut [u8], out: &mut [u8]) -> Layered
+pub fn make_shallow(
+    s: &[u8],
+    cells: &mut [u8],
+    marks: &mut [u8],
+    out: &mut [u8],
+) -> Result<Layered, Refusal>
     ensures { layered_made_of result cells.new marks.new out.new
         ≡ make_shallow_call s.now cells.old marks.old out.old }
 {

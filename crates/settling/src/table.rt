@@ -7,7 +7,7 @@ ghost use Rattle.accepted.specs.Taken.{Given};
 
 use crate::calls::length_alone;
 use crate::into;
-use answers::answer::Answer;
+use answers::refusal::Refusal;
 use nets::forms::Header;
 use wirings::choice::Choice;
 
@@ -19,7 +19,7 @@ pub fn make_table(
     cells: &mut [u8],
     marks: &mut [u8],
     out: &mut [u8],
-) -> Answer
+) -> Result<usize, Refusal>
     requires { Given s.now header inks.now }
     ensures { made_of result cells.new marks.new out.new
         ≡ made_into settled_net (table_in s.now header inks.now) cells.old marks.old out.old }

@@ -1,6 +1,6 @@
 -- Table writing: the table sheet measured, then printed.
 -- Assumes nothing.
-use Rattle.std.specs.Prelude.{◌<◌, ◌≤◌, ◌-◌, ◌^◌, ◌≡◌}
+use Rattle.std.specs.Prelude.{◌<◌, ◌≤◌, ◌-◌, ◌^◌, ◌≡◌, Result}
 use Rattle.laws.specs.Prelude.{ℕ, ◌∙◌, sym, subst, List, length, take}
 use Rattle.rules.specs.Sheets.Sheets.{Table}
 use Rattle.rules.specs.Sheets.Printed.{printed_table}
@@ -9,7 +9,7 @@ use Rattle.rules.specs.Calls.Answers.{accepted, refused}
 use Rattle.rules.specs.Sheets.Reading.{table_of_net}
 use Rattle.laws.specs.Calls.TableWriting.{table_15, table_written}
 use Rattle.answers.specs.AnswerMaps.{answer_of}
-use Rattle.answers.specs.declared.answer.Answer.{Answer}
+use Rattle.answers.specs.declared.refusal.Refusal.{Refusal}
 use Rattle.nets.specs.declared.forms.Header.{Header}
 use Rattle.nets.specs.declared.forms.Net.{Net}
 use Rattle.nets.specs.Evaluating.{Tabled}
@@ -19,7 +19,7 @@ use Rattle.net_sheets.specs.Text.Put.{NetWrote}
 use Rattle.accepted.specs.Taken.{NetTaken, names_inside, own_length, front_length, front_table}
 
 -- the answer, and the output after the call
-abbrev pub table_written_of : Answer → List ℕ → Written
+abbrev pub table_written_of : Result ℕ Refusal → List ℕ → Written
 table_written_of r output = record { answer = answer_of r; output = output }
 
 module _ (s : List ℕ) (h : Header) (net : Net) (taken : NetTaken s h net) (count need : ℕ) (is : count ≡ h.levels ^ h.inputs)

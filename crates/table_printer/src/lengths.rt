@@ -7,7 +7,6 @@ ghost use Rattle.net_sheets.specs.Text.Names.{NamesInside};
 ghost use Rattle.nets.specs.Forms.{table_in};
 ghost use Rattle.table_printer.specs.Lengths.{lens_total, most_decimal};
 
-use net_sheets::text::wide::wide;
 use nets::forms::Header;
 
 // Returns how many digits k has.
@@ -28,13 +27,9 @@ pub fn names_length(h: Header) -> usize
     requires { h.inputs ≤ most_inputs }
     ensures { (result ≡ lens_total h.lens h.inputs) × (result ≤ 256 * h.inputs) }
 {
-    let inputs = h.inputs;
-    let lens = h.lens;
-    let mut total: usize = 0;
-    let mut i: usize = 0;
-    while i < inputs {
-        total += wide(lens[i]) + 1;
-        i += 1;
+    let mut total = 0;
+    for len in &h.lens[..h.inputs] {
+        total += usize::from(*len) + 1;
     }
     total
 }

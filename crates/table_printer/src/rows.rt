@@ -19,14 +19,7 @@ fn put_word(word: usize, out: &mut [u8], at: usize)
     requires { at + 8 ≤ length out.old }
     ensures { out.new ≡ sets out.old at (word_bytes word) }
 {
-    out[at] = (word % 256) as u8;
-    out[at + 1] = (word / 256 % 256) as u8;
-    out[at + 2] = (word / 65536 % 256) as u8;
-    out[at + 3] = (word / 16777216 % 256) as u8;
-    out[at + 4] = (word / 4294967296 % 256) as u8;
-    out[at + 5] = (word / 1099511627776 % 256) as u8;
-    out[at + 6] = (word / 281474976710656 % 256) as u8;
-    out[at + 7] = (word / 72057594037927936 % 256) as u8;
+    out[at..at + 8].copy_from_slice(&word.to_le_bytes());
 }
 
 // Writes the first four of n levels and, if n is over eight, the next four; returns how many it wrote.

@@ -32,12 +32,10 @@ fn print_row(levels: &[u8], ink: u8, out: &mut [u8], at: usize) -> usize
     requires { ((k : ℕ) → k < length levels.now → get_or levels.now k 0 < 10) × PutRoom out.old at (row_text levels.now ink) }
     ensures { Put out.old at (row_text levels.now ink) out.new result }
 {
-    let mut i: usize = 0;
-    let mut p: usize = at;
-    while i < levels.len() {
-        out[p] = b'0' + levels[i];
+    let mut p = at;
+    for level in levels {
+        out[p] = b'0' + *level;
         out[p + 1] = b' ';
-        i += 1;
         p += 2;
     }
     out[p] = ink;
@@ -52,13 +50,10 @@ fn narrow_rows(m: usize, n: usize, inks: &[u8], out: &mut [u8], at: usize) -> us
     ensures { Put out.old at (printed_rows m n 0 inks.now) out.new result }
 {
     let mut levels = [0u8; MOST_INPUTS];
-    let mut k: usize = 0;
-    let mut p: usize = at;
-    while k < inks.len() {
-        let ink = ink_byte(m, inks[k]);
-        p = print_row(&levels[0..n], ink, out, p);
+    let mut p = at;
+    for ink in inks {
+        p = print_row(&levels[..n], ink_byte(m, *ink), out, p);
         next_levels(m, n, &mut levels);
-        k += 1;
     }
     p
 }
@@ -75,13 +70,10 @@ fn wide_rows(m: usize, n: usize, inks: &[u8], out: &mut [u8], at: usize) -> usiz
         middle: ZEROS,
         last: ZEROS,
     };
-    let mut k: usize = 0;
-    let mut p: usize = at;
-    while k < inks.len() {
-        let ink = ink_byte(m, inks[k]);
-        p = wide_row(words, n, ink, out, p);
+    let mut p = at;
+    for ink in inks {
+        p = wide_row(words, n, ink_byte(m, *ink), out, p);
         words = next_words(m, n, words, &mut levels);
-        k += 1;
     }
     p
 }

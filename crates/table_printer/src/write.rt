@@ -6,8 +6,7 @@ ghost use Rattle.accepted.specs.Taken.{NetTaken};
 
 use crate::lengths::table_length;
 use crate::table::print_table;
-use answers::answer::Answer;
-use answers::outcome::Outcome;
+use answers::refusal::{Kind, Refusal};
 use evaluation::table;
 use net_sheets::reader::net::read_net;
 use nets::forms::{Header, Net};
@@ -15,33 +14,27 @@ use radix::limits::MOST_CELLS;
 use radix::powers::power;
 
 // Writes the table sheet of an accepted net sheet and returns its length, or refuses with 15.
-fn write_accepted(sheet: &[u8], header: Header, net: Net, out: &mut [u8]) -> Answer
+fn write_accepted(sheet: &[u8], header: Header, net: Net, out: &mut [u8]) -> Result<usize, Refusal>
     requires { NetTaken sheet.now header net }
     ensures { table_written_of result out.new ≡ write_table_call sheet.now out.old }
 {
     let count = power(header.levels, header.inputs);
     let need = table_length(header, count);
     if out.len() < need {
-        return Answer::Refused {
-            number: 15,
+        return Err(Refusal {
+            kind: Kind::OutputShort,
             place: need,
-        };
+        });
     }
     let mut cells = [0u8; MOST_CELLS];
     table::table(net, &mut cells);
-    Answer::Accepted(print_table(sheet, header, &cells[0..count], out))
+    Ok(print_table(sheet, header, &cells[0..count], out))
 }
 
 // Writes the table sheet of a net sheet to the front of `out`, and returns its length. The net sheet may be any bytes.
-pub fn write_table(sheet: &[u8], out: &mut [u8]) -> Answer
+pub fn write_table(sheet: &[u8], out: &mut [u8]) -> Result<usize, Refusal>
     ensures { table_written_of result out.new ≡ write_table_call sheet.now out.old }
 {
-    let read = read_net(sheet);
-    let outcome = read.outcome;
-    let header = read.header;
-    let net = read.net;
-    match outcome {
-        Outcome::Refused { number, place } => Answer::Refused { number, place },
-        Outcome::Accepted => write_accepted(sheet, header, net, out),
-    }
+    let read = read_net(sheet)?;
+    write_accepted(sheet, read.header, read.net, out)
 }

@@ -1,46 +1,48 @@
 -- The first three lines of a table sheet, strict or loose, and what follows them: the rows, and the end.
 -- Assumes nothing.
-use Rattle.std.specs.Prelude.{◌≡◌}
-use Rattle.laws.specs.Prelude.{ℕ, ◌∙◌, ap, refl, List, drop}
+use Rattle.std.specs.Prelude.{◌≡◌, Result, Ok, Err}
+use Rattle.laws.specs.Prelude.{ℕ, ◌∙◌, ap, subst, refl, List, drop}
 use Rattle.rules.specs.Text.{space, newline, text, newline_byte}
 use Rattle.rules.specs.Sheets.Fields.{Reader, then, ◌>>=◌, give, Layout, field_in, the_word, closed}
 use Rattle.rules.specs.Sheets.Reading.{answered}
 use Rattle.rules.specs.Sheets.Sheets as sheets
 use Rattle.rules.specs.Sheets.Sheets.{header_lines_in}
 use Rattle.nets.specs.Forms.{header_of}
-use Rattle.fields.specs.Chained.{Answers, answers_back, answers_on, answers_end, chained_back, chained_on, end_of, field_then_then}
-use Rattle.fields.specs.Header.FirstLines.{HeaderRest}
-use Rattle.fields.specs.Steps.{step_as, nothing, spelled}
+use Rattle.rules.specs.Calls.Answers.{accepted}
+use Rattle.answers.specs.AnswerMaps.{refused_by}
+use Rattle.answers.specs.declared.refusal.Refusal.{Refusal}
+use Rattle.fields.specs.Chained.{Answers, end_of, end_refused, end_accepted, field_then_then, never_both}
+use Rattle.fields.specs.Header.FirstLines.{HeaderHeld, HeaderRest}
+use Rattle.fields.specs.Steps.{Step, step_as, nothing, spelled}
 use Rattle.fields.specs.declared.header.name_line.HeaderRead.{HeaderRead}
-use Rattle.fields.specs.declared.steps.Step.{Step}
-use Rattle.fields.specs.declared.steps.Step.TheVariants.{On, Back}
-use Rattle.answers.specs.declared.outcome.Outcome.{Outcome}
-use Rattle.answers.specs.declared.outcome.Outcome.TheVariants.{Refused}
+use Rattle.fields.specs.declared.steps.Field.{Field}
 
 unfoldable pub table_head : Layout → Reader sheets.Header
 table_head layout = header_lines_in layout space >>= λ h. field_in layout (the_word "ink") newline >>= λ _. give h
 
 -- ---- the header, then the word
 
-module _ (layout : Layout) (s : List ℕ) (read : HeaderRead) (lines : HeaderRest s 0 (header_lines_in layout space) read) where
-  pub head_refused : (number place : ℕ) → read.step ≡ Back number place → HeaderRest s 0 (table_head layout) read
-  unfolding table_head
-  head_refused number place e =
-      record { reads = chained_back _ (header_lines_in layout space) _ s 0 read.step lines.reads _ read.step number place e e; held = lines.held }
+module _ (layout : Layout) (s : List ℕ) (r : Result HeaderRead Refusal) (lines : HeaderRest s 0 (header_lines_in layout space) r) where
+  pub head_refused : (e : Refusal) → r ≡ Err e → HeaderRest s 0 (table_head layout) (Err e)
+  unfolding table_head then
+  head_refused e is = record { reads = rw (← lines.reads, is) refl; held = λ read q. absurd (never_both (Err e) e read refl q) }
 
-  pub head_word : (value next : ℕ) (word : Step) → read.step ≡ On value next
-      → step_as nothing s word ≡ field_in layout (spelled (text "ink")) newline_byte (drop next s) next
-      → HeaderRest s 0 (table_head layout) (record { step = word; header = read.header })
-  unfolding table_head spelled the_word newline then
-  head_word value next word e reads =
-      record {
-        reads = chained_on _ (header_lines_in layout space) _ s 0 read.step lines.reads _ word value next e (rw (← reads) (named word));
-        held = λ _ _ _. lines.held value next e;
-      }
-    where
-      named : (step : Step) → step_as (λ _. header_of s read.header) s step ≡ then (step_as nothing s step) (λ _. give (header_of s read.header))
-      named (On value next) = refl
-      named (Back number place) = refl
+  module _ (read : HeaderRead) (is : r ≡ Ok read) (word : Step)
+      (reads : step_as nothing s word ≡ field_in layout (spelled (text "ink")) newline_byte (drop read.next s) read.next) where
+    head_after : table_head layout s 0 ≡ then (step_as nothing s word) (λ _. give (header_of s read.header))
+    unfolding table_head spelled the_word newline then
+    head_after = rw (← lines.reads, is, ← reads) refl
+
+    pub word_refused : (e : Refusal) → word ≡ Err e → HeaderRest s 0 (table_head layout) (Err e)
+    unfolding then
+    word_refused e refused = record { reads = rw (head_after, refused) refl; held = λ x q. absurd (never_both (Err e) e x refl q) }
+
+    pub word_read : (found : Field) → word ≡ Ok found → HeaderRest s 0 (table_head layout) (Ok (record { header = read.header; next = found.next }))
+    unfolding then
+    word_read found on = record { reads = rw (head_after, on) refl; held = λ x q. subst (HeaderHeld s) (same x q) (lines.held read is) }
+      where
+        same : (x : HeaderRead) → ◌≡◌ {A = Result HeaderRead Refusal} (Ok (record { header = read.header; next = found.next })) (Ok x) → read.header ≡ x.header
+        same x q = cc
 
 -- ---- a whole sheet: these rows, from which `table` makes the result
 
@@ -51,25 +53,33 @@ module _ {A B : Type 0} (layout : Layout) (rows : sheets.Header → Reader A) (t
   unfoldable pub whole_sheet : Reader B
   whole_sheet = header_lines_in layout space >>= λ h. field_in layout (the_word "ink") newline >>= λ _. rows h >>= λ a. closed >>= λ _. give (table h a)
 
-  module _ (s : List ℕ) (head : HeaderRead) (lines : HeaderRest s 0 (table_head layout) head) (Held : Type 0) where
-    whole : (b : B) (o : Outcome) → Answers s 0 (table_head layout >>= after_head) b Held o → Answers s 0 whole_sheet b Held o
-    unfolding table_head whole_sheet after_head then closed
-    whole b o rest = record { answer = rest.answer ∙ ap answered joined; held = rest.held }
-      where
-        joined : (table_head layout >>= after_head) s 0 ≡ whole_sheet s 0
-        joined =
-            field_then_then (header_lines_in layout space s 0) _ _
-            ∙ ap (then (header_lines_in layout space s 0)) (λ i h t p. field_then_then (field_in layout (the_word "ink") newline t p) (λ _. give h) after_head i)
+  joined : (s : List ℕ) → (table_head layout >>= after_head) s 0 ≡ whole_sheet s 0
+  unfolding table_head whole_sheet after_head then closed
+  joined s =
+      field_then_then (header_lines_in layout space s 0) _ _
+      ∙ ap (then (header_lines_in layout space s 0)) (λ i h t p. field_then_then (field_in layout (the_word "ink") newline t p) (λ _. give h) after_head i)
 
-    pub sheet_refused : (b : B) (number place : ℕ) → head.step ≡ Back number place → Answers s 0 whole_sheet b Held (Refused number place)
-    sheet_refused b number place e =
-        whole b (Refused number place) (answers_back _ (table_head layout) after_head s 0 head.step lines.reads b Held number place e)
+  -- the result of a whole sheet has the type R, with the value b
+  module _ {R : Type 0} (s : List ℕ) (r : Result HeaderRead Refusal) (lines : HeaderRest s 0 (table_head layout) r) (b : R → B) (Held : R → Type 0) where
+    pub sheet_refused : (e : Refusal) → r ≡ Err e → Answers s 0 whole_sheet b Held (Err e)
+    unfolding then answered
+    sheet_refused e is = record { answer = rw (← (joined s), ← lines.reads, is) refl; held = λ x q. absurd (never_both (Err e) e x refl q) }
 
-    pub sheet_ended : (value next : ℕ) → head.step ≡ On value next → (a : A) (last : Step)
-        → step_as (λ _. a) s last ≡ rows (header_of s head.header) (drop next s) next → ((value next : ℕ) → last ≡ On value next → Held)
-        → (o : Outcome) → o ≡ end_of s last → Answers s 0 whole_sheet (table (header_of s head.header) a) Held o
-    unfolding after_head
-    sheet_ended value next e a last reads held o is =
-        whole _ o
-        (answers_on _ (table_head layout) after_head s 0 head.step lines.reads _ Held value next o e
-        (answers_end (rows (header_of s head.header)) (table (header_of s head.header)) s next a last reads Held held o is))
+    module _ (read : HeaderRead) (is : r ≡ Ok read) where
+      sheet_on : (result : Result R Refusal) → Answers s read.next (after_head (header_of s read.header)) b Held result → Answers s 0 whole_sheet b Held result
+      unfolding then
+      sheet_on result onward = record { answer = rw (← (joined s), ← lines.reads, is) onward.answer; held = onward.held }
+
+      module _ (a : A) (last : Step) (reads : step_as (λ _. a) s last ≡ rows (header_of s read.header) (drop read.next s) read.next) where
+        pub sheet_end_refused : (e : Refusal) → refused_by e ≡ end_of s last → Answers s 0 whole_sheet b Held (Err e)
+        unfolding after_head
+        sheet_end_refused e ends =
+            sheet_on (Err e)
+            (end_refused (rows (header_of s read.header)) (table (header_of s read.header)) s read.next a last reads b Held e ends)
+
+        pub sheet_accepted : (x : R) → b x ≡ table (header_of s read.header) a → accepted tt ≡ end_of s last → ((found : Field) → last ≡ Ok found → Held x)
+            → Answers s 0 whole_sheet b Held (Ok x)
+        unfolding after_head
+        sheet_accepted x value ends held =
+            sheet_on (Ok x)
+            (end_accepted (rows (header_of s read.header)) (table (header_of s read.header)) s read.next a last reads b Held x value ends held)

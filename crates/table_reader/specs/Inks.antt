@@ -6,7 +6,6 @@ use Rattle.rules.specs.Lists.{same}
 use Rattle.rules.specs.Text.{zero_byte, open_byte}
 use Rattle.rules.specs.Sheets.Fields.{read, good, field, run}
 use Rattle.rules.specs.Sheets.Sheets.{ink_field}
-use Rattle.fields.specs.declared.steps.Found.TheVariants.{At, Nowhere}
 use Rattle.fields.specs.Taken.{taken_field_read}
 use Rattle.laws.specs.Nets.Inks.{field_open, field_digit}
 use Rattle.laws.specs.Lists.Same.{same_refl, same_true}
@@ -40,10 +39,3 @@ ink_told m w ink e = go (same w (open_byte ∷ [])) refl
 
 pub ink_read : (m due : ℕ) (t rest : List ℕ) (at ink next : ℕ) → field (ink_field m) due t at ≡ read ink rest next → ink ≤ m
 ink_read m due t rest at ink next e = ink_told m (run t) ink (taken_field_read (ink_field m) ink due t rest at next e).0
-
--- a search for an ink: nothing found is not an ink, and the ink found is the one returned
-pub no_ink : {A : Type 0} (ink : ℕ) → Nowhere ≡ At ink → A
-no_ink ink e = let z : ◌≡◌ {A = ℕ} 0 1 = cc in absurd (omega arith)
-
-pub same_ink : (a b : ℕ) → At a ≡ At b → b ≡ a
-same_ink a b e = cc

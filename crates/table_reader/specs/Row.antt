@@ -1,14 +1,13 @@
 -- A row, field by field.
 -- Assumes nothing.
-use Rattle.std.specs.Prelude.{◌<◌, ◌≤◌, ◌+◌, ◌≡◌}
-use Rattle.laws.specs.Prelude.{ℕ, ◌∙◌, sym, ap, refl, List, add-one, arith, length, get_or, take, drop, drop_of_length-le}
-use Rattle.laws.specs.Prelude.{length-take-le, get_or-take, drop-cons}
+use Rattle.std.specs.Prelude.{◌<◌, ◌≤◌, ◌+◌, ◌≡◌, Ok, Err}
+use Rattle.laws.specs.Prelude.{ℕ, ◌∙◌, sym, ap, refl, List, add-one, arith, length, get_or, drop, drop_of_length-le, drop-cons}
 use Rattle.rules.specs.Text.{space, newline, space_byte, newline_byte}
 use Rattle.rules.specs.Sheets.Fields.{Read, read, turned_back, Reader, then, ◌>>=◌, field}
 use Rattle.rules.specs.Sheets.Sheets.{level_field, ink_field, level_fields}
-use Rattle.fields.specs.Steps.{step_as, itself, nothing}
-use Rattle.fields.specs.declared.steps.Step.{Step}
-use Rattle.fields.specs.declared.steps.Step.TheVariants.{On, Back}
+use Rattle.answers.specs.declared.refusal.Refusal.{Refusal}
+use Rattle.fields.specs.Steps.{Step, step_as, itself, nothing}
+use Rattle.fields.specs.declared.steps.Field.{Field}
 use Rattle.table_reader.specs.Inks.{ink_read}
 
 -- a row with the input levels `ls`
@@ -22,38 +21,27 @@ fields_more : (ls : List ℕ) (i : ℕ) (t : List ℕ) (q : ℕ) → i < length 
 unfolding level_fields space
 fields_more ls i t q h = rw (add-one, drop-cons ls i 0, level_fields)
 
--- i levels are read, and the levels from here are the levels from the start
-pub record InRow (s levels : List ℕ) (at n place i : ℕ) : Type 0 where
-  pub most : i ≤ n
-  pub reads : level_fields (take n levels) (drop at s) at ≡ level_fields (drop i (take n levels)) (drop place s) place
+-- i of the levels `ls` are read, and the levels from here are the levels from the start
+pub record InRow (s ls : List ℕ) (at place i : ℕ) : Type 0 where
+  pub reads : level_fields ls (drop at s) at ≡ level_fields (drop i ls) (drop place s) place
 
-pub row_start : (s levels : List ℕ) (at n : ℕ) → InRow s levels at n at 0
-row_start s levels at n = record { most = omega arith; reads = refl }
+module _ (s ls : List ℕ) (at place i : ℕ) (row : InRow s ls at place i) where
+  module _ (more : i < length ls) (step : Step) (level : step_as nothing s step ≡ field (level_field (get_or ls i 0)) space_byte (drop place s) place) where
+    onward : level_fields ls (drop at s) at ≡ then (step_as nothing s step) (λ _. level_fields (drop (i + 1) ls))
+    onward = row.reads ∙ (fields_more ls i (drop place s) place more ∙ ap (λ x. then x (λ _. level_fields (drop (i + 1) ls))) (sym level))
 
-module _ (s levels : List ℕ) (at n place i : ℕ) (room : n ≤ length levels) (row : InRow s levels at n place i) where
-  module _ (more : i < n) (step : Step) (level : step_as nothing s step ≡ field (level_field (get_or levels i 0)) space_byte (drop place s) place) where
-    onward : level_fields (take n levels) (drop at s) at ≡ then (step_as nothing s step) (λ _. level_fields (drop (i + 1) (take n levels)))
-    onward =
-        let here : i < length (take n levels) = rw (length-take-le n levels room) more in
-        row.reads
-        ∙ (fields_more (take n levels) i (drop place s) place here
-        ∙ ap (λ x. then x (λ _. level_fields (drop (i + 1) (take n levels))))
-        (ap (λ l. field (level_field l) space_byte (drop place s) place) (get_or-take n levels i 0 more) ∙ sym level))
-
-    pub row_back : (m number back : ℕ) → step ≡ Back number back → step_as itself s step ≡ row_line m (take n levels) (drop at s) at
+    pub row_back : (m : ℕ) (e : Refusal) → step ≡ Err e → step_as itself s (Err e) ≡ row_line m ls (drop at s) at
     unfolding row_line then
-    row_back m number back e = rw (onward, e) refl
+    row_back m e is = rw (onward, is) refl
 
-    pub table_row_next : (value next : ℕ) → step ≡ On value next → InRow s levels at n next (i + 1)
+    pub table_row_next : (found : Field) → step ≡ Ok found → InRow s ls at found.next (i + 1)
     unfolding then
-    table_row_next value next e = record { most = omega arith; reads = rw (onward, e) refl }
+    table_row_next found is = record { reads = rw (onward, is) refl }
 
-  pub row_done : (m : ℕ) (step : Step) → n ≤ i → step_as itself s step ≡ field (ink_field m) newline_byte (drop place s) place
-      → step_as itself s step ≡ row_line m (take n levels) (drop at s) at
+  pub row_done : (m : ℕ) (step : Step) → length ls ≤ i → step_as itself s step ≡ field (ink_field m) newline_byte (drop place s) place
+      → step_as itself s step ≡ row_line m ls (drop at s) at
   unfolding row_line then level_fields newline
-  row_done m step done ink =
-      let short : length (take n levels) ≤ i = rw (length-take-le n levels room) done in
-      rw (row.reads, drop_of_length-le (take n levels) short) ink
+  row_done m step done ink = rw (row.reads, drop_of_length-le ls done) ink
 
 -- the ink of a row that was read is a level, or m for an open cell
 pub row_ink : (m : ℕ) (ls t rest : List ℕ) (q ink next : ℕ) → row_line m ls t q ≡ read ink rest next → ink ≤ m

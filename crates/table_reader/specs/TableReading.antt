@@ -1,7 +1,7 @@
 -- The result of reading a table sheet, in the definitions.
 -- Assumes nothing.
-use Rattle.std.specs.Prelude.{◌^◌, ◌≡◌}
-use Rattle.laws.specs.Prelude.{ℕ, suc, List, [], take}
+use Rattle.std.specs.Prelude.{◌^◌, ◌≡◌, Result, Ok, Err}
+use Rattle.laws.specs.Prelude.{ℕ, suc, refl, List, [], take}
 use Rattle.rules.specs.Sheets.Fields.{Reader, strict}
 use Rattle.rules.specs.Sheets.Sheets as sheets
 use Rattle.rules.specs.Sheets.Sheets.{Table, row_lines, table_sheet}
@@ -9,17 +9,15 @@ use Rattle.rules.specs.Sheets.Reading.{read_table}
 use Rattle.laws.specs.Lists.Bounds.{Below}
 use Rattle.nets.specs.Forms.{header_of, table_in}
 use Rattle.nets.specs.declared.forms.Header.{Header}
-use Rattle.fields.specs.Chained.{end_of}
+use Rattle.rules.specs.Calls.Answers.{accepted}
+use Rattle.answers.specs.AnswerMaps.{answer_as, refused_by}
+use Rattle.answers.specs.declared.refusal.Refusal.{Refusal}
+use Rattle.fields.specs.Chained.{Answers, end_of}
 use Rattle.fields.specs.Header.FirstLines.{HeaderHeld, HeaderRest}
+use Rattle.fields.specs.Steps.{Step}
 use Rattle.fields.specs.declared.header.name_line.HeaderRead.{HeaderRead}
-use Rattle.fields.specs.declared.steps.Step.{Step}
-use Rattle.fields.specs.declared.steps.Step.TheVariants.{On, Back}
-use Rattle.answers.specs.AnswerMaps.{outcome_as}
-use Rattle.answers.specs.declared.outcome.Outcome.{Outcome}
-use Rattle.answers.specs.declared.outcome.Outcome.TheVariants.{Accepted, Refused}
 use Rattle.table_reader.specs.Fast.Rows.{RowsRead}
-use Rattle.table_reader.specs.Head.{table_head, whole_sheet, sheet_refused, sheet_ended}
-use Rattle.table_reader.specs.declared.sheet.TableRead.{TableRead}
+use Rattle.table_reader.specs.Head.{table_head, whole_sheet, sheet_refused, sheet_end_refused, sheet_accepted}
 
 -- the inks of a table under the header h, at the front of `cells`
 abbrev pub inks_in : List ℕ → Header → List ℕ
@@ -31,9 +29,9 @@ pub record TableHeld (s cells : List ℕ) (h : Header) : Type 0 where
   pub inks : Below (suc h.levels) (inks_in cells h)
 
 -- reading a whole table sheet, with `cells` as they are afterwards
-pub record TableReads (s cells : List ℕ) (r : TableRead) : Type 0 where
-  pub answer : outcome_as (table_in s r.header (inks_in cells r.header)) r.outcome ≡ read_table s
-  pub held : r.outcome ≡ Accepted → TableHeld s cells r.header
+pub record TableReads (s cells : List ℕ) (r : Result Header Refusal) : Type 0 where
+  pub answer : answer_as (λ h. table_in s h (inks_in cells h)) r ≡ read_table s
+  pub held : (h : Header) → r ≡ Ok h → TableHeld s cells h
 
 -- the rows under a header, and their table
 abbrev all_rows : sheets.Header → Reader (List ℕ)
@@ -42,21 +40,24 @@ all_rows h = row_lines h.levels h.inputs 0 (h.levels ^ h.inputs) []
 abbrev table_of : sheets.Header → List ℕ → Table
 table_of h inks = record { header = h; inks = inks }
 
-module _ (s cells : List ℕ) (head : HeaderRead) (lines : HeaderRest s 0 (table_head strict) head) where
-  pub table_refused : (number place : ℕ) → head.step ≡ Back number place
-      → TableReads s cells (record { outcome = Refused number place; header = head.header })
+module _ (s cells : List ℕ) (head : Result HeaderRead Refusal) (lines : HeaderRest s 0 (table_head strict) head) where
+  -- the answer to the whole sheet
+  told : (r : Result Header Refusal) → Answers s 0 (whole_sheet strict all_rows table_of) (λ h. table_in s h (inks_in cells h)) (TableHeld s cells) r
+      → TableReads s cells r
   unfolding read_table table_sheet whole_sheet
-  table_refused number place e =
-      let h = head.header in
-      let told = sheet_refused strict all_rows table_of s head lines (TableHeld s cells h) (table_in s h (inks_in cells h)) number place e in
-      record { answer = told.answer; held = told.held }
+  told r answers = record { answer = answers.answer; held = answers.held }
 
-  pub table_ended : (value next : ℕ) → head.step ≡ On value next → (last : Step)
-      → RowsRead s next head.header.levels head.header.inputs cells last → (o : Outcome) → o ≡ end_of s last
-      → TableReads s cells (record { outcome = o; header = head.header })
-  unfolding read_table table_sheet whole_sheet header_of
-  table_ended value next e last rows o is =
-      let told =
-      sheet_ended strict all_rows table_of s head lines (TableHeld s cells head.header) value next e _ last rows.reads
-      (λ v n q. record { header = lines.held value next e; inks = rows.held v n q }) o is in
-      record { answer = told.answer; held = told.held }
+  pub table_refused : (e : Refusal) → head ≡ Err e → TableReads s cells (Err e)
+  table_refused e is = told (Err e) (sheet_refused strict all_rows table_of s head lines _ _ e is)
+
+  module _ (read : HeaderRead) (is : head ≡ Ok read) (last : Step) (rows : RowsRead s read.next read.header.levels read.header.inputs cells last) where
+    pub table_end_refused : (e : Refusal) → refused_by e ≡ end_of s last → TableReads s cells (Err e)
+    unfolding header_of
+    table_end_refused e ends = told (Err e) (sheet_end_refused strict all_rows table_of s head lines _ _ read is _ last rows.reads e ends)
+
+    pub table_accepted : accepted tt ≡ end_of s last → TableReads s cells (Ok read.header)
+    unfolding header_of
+    table_accepted ends =
+        told (Ok read.header)
+        (sheet_accepted strict all_rows table_of s head lines _ (TableHeld s cells) read is _ last rows.reads read.header refl ends
+        (λ found on. record { header = lines.held read is; inks = rows.held found on }))

@@ -7,60 +7,35 @@ ghost use Rattle.table_reader.specs.Head.{table_head};
 ghost use Rattle.table_reader.specs.TableReading.{TableReads};
 
 use crate::rows::rows;
-use answers::outcome::Outcome;
+use answers::refusal::Refusal;
 use fields::ends::ended;
 use fields::header::first_lines::header_lines_in;
 use fields::header::name_line::HeaderRead;
 use fields::runs::{NEWLINE, SPACE};
-use fields::steps::{Layout, Step};
+use fields::steps::Layout;
 use fields::words::word_field_in;
 use nets::forms::Header;
 
-// The result of reading a table sheet, strict or loose. The header is complete if the sheet is accepted.
-#[derive(Drop)]
-pub struct TableRead {
-    pub outcome: Outcome,
-    pub header: Header,
-}
-
 // Reads the first three lines of a table sheet: the header and the word `ink`.
-pub fn table_head(s: &[u8], layout: Layout) -> HeaderRead
+pub fn table_head(s: &[u8], layout: Layout) -> Result<HeaderRead, Refusal>
     ensures { HeaderRest s.now 0 (table_head (layout_of layout)) result }
 {
-    let read = header_lines_in(s, SPACE, layout);
-    let header = read.header;
-    let step = read.step;
-    match step {
-        Step::Back {
-            number: _,
-            place: _,
-        } => read,
-        Step::On { value: _, next } => HeaderRead {
-            step: word_field_in(s, next, b"ink", NEWLINE, layout),
-            header,
-        },
-    }
+    let lines = header_lines_in(s, SPACE, layout)?;
+    let word = word_field_in(s, lines.next, b"ink", NEWLINE, layout)?;
+    Ok(HeaderRead {
+        header: lines.header,
+        next: word.next,
+    })
 }
 
 // Reads a table sheet from any bytes; its inks go to the front of `cells`.
-pub fn read_table(s: &[u8], cells: &mut [u8]) -> TableRead
+pub fn read_table(s: &[u8], cells: &mut [u8]) -> Result<Header, Refusal>
     requires { most_cells ≤ length cells.old }
     ensures { TableReads s.now cells.new result }
 {
-    let head = table_head(s, Layout::Strict);
+    let head = table_head(s, Layout::Strict)?;
     let header = head.header;
-    let step = head.step;
-    match step {
-        Step::Back { number, place } => TableRead {
-            outcome: Outcome::Refused { number, place },
-            header,
-        },
-        Step::On { value: _, next } => {
-            let last = rows(s, next, header.levels, header.inputs, cells);
-            TableRead {
-                outcome: ended(s, last),
-                header,
-            }
-        }
-    }
+    let last = rows(s, head.next, header.levels, header.inputs, cells);
+    ended(s, last)?;
+    Ok(header)
 }

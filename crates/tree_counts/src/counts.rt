@@ -1,4 +1,4 @@
-// The number of trees of a group, from its splits, and of a split, from its two groups: the two call each other. Known counts are recorded.
+// The number of trees of a group, from its splits, and of a split, from its two groups: they call each other. Known counts are recorded.
 ghost use Rattle.std.specs.Prelude.{◌≡◌, ◌-◌, ◌*◌, ◌^◌, ◌<◌, length, get_or};
 ghost use Rattle.tree_counts.specs.Counts.{Countable, Splittable, CountKnown, SplitKnown};
 
@@ -36,17 +36,24 @@ pub fn group_count(marks: &[u8], counts: &mut [u64], g: usize) -> u64
     let mut sum: u64 = 0;
     let mut part: usize = 0;
     while part < rest {
-        let product = kept_product(counts, g, first + part);
-        if product == 0 {
-            sum += split_count(marks, counts, g, first + part);
-            part = members::next_part(rest, part);
-        } else {
-            sum += product;
-            part = members::next_part(rest, part);
-        }
+        sum += known_split(marks, counts, g, first + part);
+        part = members::next_part(rest, part);
     }
     counts[g] = sum;
     sum
+}
+
+// Returns the number of trees of the split of group g, which has mark 2, into a and the rest. Uses the recorded counts if both are known.
+#[cycle(group_count_split_count)]
+pub fn known_split(marks: &[u8], counts: &mut [u64], g: usize, a: usize) -> u64
+    requires { Splittable marks.now counts.old g a }
+    ensures { SplitKnown marks.now g a result counts.new }
+{
+    let product = kept_product(counts, g, a);
+    if product != 0 {
+        return product;
+    }
+    split_count(marks, counts, g, a)
 }
 
 // Returns the number of trees of the split of group g, which has mark 2, into a and the rest: the product of their counts.

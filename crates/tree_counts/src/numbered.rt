@@ -2,7 +2,7 @@
 ghost use Rattle.std.specs.Prelude.{◌≡◌, ◌+◌, ◌≤◌};
 ghost use Rattle.rules.specs.Groups.Groups.{size};
 ghost use Rattle.rules.specs.Groups.Marks.{mark_in};
-ghost use Rattle.tree_counts.specs.Counts.{Countable, Splittable, SplitKnown};
+ghost use Rattle.tree_counts.specs.Counts.{Countable};
 ghost use Rattle.tree_counts.specs.Numbered.{InCount, SplitFound, NumberWired, WiringFound};
 
 use crate::counts;
@@ -17,18 +17,6 @@ pub struct Numbered {
     pub number: u64,
 }
 
-// Returns the number of trees of the split of group g, which has mark 2, into a and the rest. Uses the recorded counts if both are known.
-fn known_split(marks: &[u8], counts: &mut [u64], g: usize, a: usize) -> u64
-    requires { Splittable marks.now counts.old g a }
-    ensures { SplitKnown marks.now g a result counts.new }
-{
-    let product = counts::kept_product(counts, g, a);
-    if product != 0 {
-        return product;
-    }
-    counts::split_count(marks, counts, g, a)
-}
-
 // Returns the split of group g that number r falls in, and the number within it: subtracts counts of splits from r until r is below the next count.
 fn numbered_split(marks: &[u8], counts: &mut [u64], g: usize, r: u64) -> Numbered
     requires { (Countable marks.now counts.old g) × (mark_in marks.now g ≡ 2) }
@@ -39,7 +27,7 @@ fn numbered_split(marks: &[u8], counts: &mut [u64], g: usize, r: u64) -> Numbere
     let mut left: u64 = r;
     let mut part: usize = 0;
     while part < rest {
-        let count = known_split(marks, counts, g, first + part);
+        let count = counts::known_split(marks, counts, g, first + part);
         if left < count {
             return Numbered {
                 part: first + part,
@@ -69,7 +57,7 @@ fn wire_numbered(
 {
     if members::single(g) {
         return Wired {
-            wiring: wiring,
+            wiring,
             reference: members::first_input(n, g) as u8,
         };
     }
@@ -85,7 +73,7 @@ fn wire_numbered(
     let all = forms::link(left.reference, right.reference, both);
     Wired {
         wiring: all,
-        reference: reference,
+        reference,
     }
 }
 

@@ -31,7 +31,7 @@ fn wire_group(
 {
     if members::single(g) {
         return Wired {
-            wiring: wiring,
+            wiring,
             reference: members::first_input(n, g) as u8,
         };
     }
@@ -44,7 +44,7 @@ fn wire_group(
     let all = forms::link(left.reference, right.reference, both);
     Wired {
         wiring: all,
-        reference: reference,
+        reference,
     }
 }
 

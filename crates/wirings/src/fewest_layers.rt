@@ -16,12 +16,7 @@ pub fn split_layers(fewest: &[u8], g: usize, a: usize) -> usize
     requires { (0 < a) × (a < g) × (g ≤ length fewest.now) }
     ensures { result ≡ split_layers fewest.now g a }
 {
-    let left = fewest[a] as usize;
-    let right = fewest[g - a] as usize;
-    if left < right {
-        return 1 + right;
-    }
-    1 + left
+    1 + fewest[a].max(fewest[g - a]) as usize
 }
 
 // Returns the lower of `least` and the layers by part a, if a and the rest of g have mark 2. If `least` is 0, none is known yet.
@@ -31,10 +26,7 @@ fn fewer_by(marks: &[u8], fewest: &[u8], g: usize, a: usize, least: usize) -> us
 {
     if split::both_two(marks, g, a) {
         let layers = split_layers(fewest, g, a);
-        if least == 0 {
-            return layers;
-        }
-        if layers < least {
+        if least == 0 || layers < least {
             return layers;
         }
     }
@@ -67,10 +59,7 @@ fn layers_of(marks: &[u8], fewest: &[u8], g: usize, floor: usize) -> usize
         × (mark_in marks.now g ≡ 2 → Under marks.now fewest.now g floor) }
     ensures { (n : ℕ) → g < 2 ^ n → result ≡ layers_of n marks.now fewest.now g }
 {
-    if g == 0 {
-        return 0;
-    }
-    if own::mark_at(marks, g) != 2 {
+    if g == 0 || own::mark_at(marks, g) != 2 {
         return 0;
     }
     fewest_of(marks, fewest, g, floor)

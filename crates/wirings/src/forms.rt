@@ -26,18 +26,13 @@ pub fn no_links() -> Wiring
 }
 
 // Returns the wiring with one more gate, which joins `left` and `right`.
-pub fn link(left: u8, right: u8, wiring: Wiring) -> Wiring
+pub fn link(left: u8, right: u8, mut wiring: Wiring) -> Wiring
     requires { wiring.gates + 1 < most_inputs }
     ensures { Linked left right wiring result }
 {
     let k = wiring.gates;
-    let mut lefts = wiring.left;
-    let mut rights = wiring.right;
-    lefts[k] = left;
-    rights[k] = right;
-    Wiring {
-        gates: k + 1,
-        left: lefts,
-        right: rights,
-    }
+    wiring.gates += 1;
+    wiring.left[k] = left;
+    wiring.right[k] = right;
+    wiring
 }

@@ -14,10 +14,7 @@ fn keeps(marks: &[u8], fewest: &[u8], g: usize, a: usize) -> bool
     ensures { result ≡ (eqb (mark_in marks.now a) 2 && eqb (mark_in marks.now (g - a)) 2
         && eqb (split_layers fewest.now g a) (get_or fewest.now g 0)) }
 {
-    if split::both_two(marks, g, a) {
-        return fewest_layers::split_layers(fewest, g, a) == fewest[g] as usize;
-    }
-    false
+    split::both_two(marks, g, a) && fewest_layers::split_layers(fewest, g, a) == fewest[g] as usize
 }
 
 // Returns the part A of lowest number that holds g's first-listed input and gives g its fewest layers, where A and the rest have mark 2; g itself if

@@ -1,38 +1,41 @@
 -- The lines, one after the other.
 -- Assumes nothing.
-use Rattle.std.specs.Prelude.{◌<◌, ◌≤◌, ◌+◌, ◌≡◌, ◌∷◌, ◌++◌}
-use Rattle.laws.specs.Prelude.{ℕ, ◌∙◌, sym, ap, refl, ap₂, true, false, Bool, List, [], map, zero-add, add-one, arith, eqb}
-use Rattle.laws.specs.Prelude.{length, get_or, drop, set, length-set, replicate, drop_of_length-le, get_or-set_same, get_or-set_other, drop-cons, eqb-true}
-use Rattle.laws.specs.Prelude.{eqb-false}
-use Rattle.rules.specs.Lists.{range}
-use Rattle.rules.specs.Limits.{most_inputs, most_time}
-use Rattle.rules.specs.Sheets.Fields.{then}
-use Rattle.rules.specs.Sheets.ArrivalSheet.{Arrival, arrival_of, arrival_line, arrival_lines}
-use Rattle.laws.specs.Lists.Ranges.{map_range_at, map_range_suc, map_range_same}
+use Rattle.std.specs.Prelude.{◌<◌, ◌≤◌, ◌+◌, ◌≡◌, ◌∷◌, ◌++◌, Result, Ok, Err, All}
+use Rattle.std.proofs.lemmas.List.{take_more_set, map_push}
+use Rattle.std.proofs.lemmas.List.Elements.{All-nil, All-same, All-push}
+use Rattle.laws.specs.Prelude.{ℕ, ◌∙◌, sym, ap, subst, refl, List, [], map, zero-add, add-one, arith, length, get_or, take, drop, set, length-set}
+use Rattle.laws.specs.Prelude.{replicate, drop_of_length-le, drop-cons}
+use Rattle.rules.specs.Limits.{most_inputs}
+use Rattle.rules.specs.Sheets.Fields.{Read, then}
+use Rattle.rules.specs.Sheets.ArrivalSheet.{Arrival, arrival_line, arrival_lines}
+use Rattle.laws.specs.Lists.Ranges.{map_range_at}
 use Rattle.nets.specs.Forms.{name_in, header_of, names_in}
 use Rattle.nets.specs.declared.forms.Header.{Header}
 use Rattle.fields.specs.Chained.{never_both}
-use Rattle.fields.specs.Steps.{step_as}
-use Rattle.fields.specs.declared.steps.Step.TheVariants.{On, Back}
+use Rattle.fields.specs.Steps.{read_as}
+use Rattle.answers.specs.declared.refusal.Refusal.{Refusal}
 use Rattle.arrivals.specs.declared.sheet.lines.LineRead.{LineRead}
-use Rattle.arrivals.specs.declared.sheet.lines.Times.{Times}
+use Rattle.arrivals.specs.declared.sheet.lines.Span.{Span}
 use Rattle.arrivals.specs.declared.sheet.lines.TimesRead.{TimesRead}
-use Rattle.arrivals.specs.Sheet.Line.{LineRest}
+use Rattle.arrivals.specs.Sheet.Line.{LineRest, arrival_in, SpanHeld, line_as}
 
 -- the arrivals of the first `count` inputs
-unfoldable pub arrivals_in : Times → ℕ → List Arrival
-arrivals_in times count = map (λ i. arrival_of (get_or times.from i 0) (get_or times.to i 0)) (range 0 count)
+unfoldable pub arrivals_in : List Span → ℕ → List Arrival
+arrivals_in times count = map arrival_in (take count times)
 
 -- the properties of the times that were read
-pub record TimesHeld (times : Times) (count : ℕ) : Type 0 where
-  pub from_many : length times.from ≡ most_inputs
-  pub to_many : length times.to ≡ most_inputs
-  pub order : (i : ℕ) → i < count → (get_or times.from i 0 ≤ get_or times.to i 0) × (get_or times.to i 0 ≤ most_time)
+pub record TimesHeld (times : List Span) (count : ℕ) : Type 0 where
+  pub many : length times ≡ most_inputs
+  pub order : All SpanHeld (take count times)
+
+-- the lines of so many inputs, in the definitions
+abbrev pub lines_as : ℕ → List ℕ → Result TimesRead Refusal → Read (List Arrival)
+lines_as count s r = read_as (λ read. arrivals_in read.times count) (λ read. read.next) s r
 
 -- reading the lines of inputs with these names from `at` on
-pub record LinesRead (names : List (List ℕ)) (s : List ℕ) (at : ℕ) (r : TimesRead) : Type 0 where
-  pub reads : step_as (λ _. arrivals_in r.times (length names)) s r.step ≡ arrival_lines names [] (drop at s) at
-  pub held : (value next : ℕ) → r.step ≡ On value next → TimesHeld r.times (length names)
+pub record LinesRead (names : List (List ℕ)) (s : List ℕ) (at : ℕ) (r : Result TimesRead Refusal) : Type 0 where
+  pub reads : lines_as (length names) s r ≡ arrival_lines names [] (drop at s) at
+  pub held : (read : TimesRead) → r ≡ Ok read → TimesHeld read.times (length names)
 
 -- the name of input i
 pub name_at : (s : List ℕ) (h : Header) (i : ℕ) → i < h.inputs → get_or (names_in s h) i [] ≡ name_in s h i
@@ -46,90 +49,60 @@ lines_more : (names : List (List ℕ)) (i : ℕ) (earlier : List Arrival) (t : L
 unfolding arrival_lines
 lines_more names i earlier t p h = rw (add-one, drop-cons names i [] h, arrival_lines) refl
 
--- the times with those of input i stored
-abbrev pub stored : Times → ℕ → ℕ → ℕ → Times
-stored times i from to = record { from = set times.from i from; to = set times.to i to }
-
-arrivals_more : (times : Times) (i from to : ℕ) → i < length times.from → i < length times.to
-    → arrivals_in (stored times i from to) (i + 1) ≡ arrivals_in times i ++ (arrival_of from to ∷ [])
+arrivals_more : (times : List Span) (i : ℕ) (span : Span) → i < length times
+    → arrivals_in (set times i span) (i + 1) ≡ arrivals_in times i ++ (arrival_in span ∷ [])
 unfolding arrivals_in
-arrivals_more times i from to hf ht =
-    ap (λ k. arrivals_in (stored times i from to) k) (add-one i)
-    ∙ map_range_suc (arrival (stored times i from to)) i
-    ∙ ap₂ (λ (earlier : List Arrival) (a : Arrival). earlier ++ (a ∷ []))
-    (map_range_same (arrival (stored times i from to)) (arrival times) 0 i
-    (λ k _ below. ap₂ arrival_of (get_or-set_other times.from i k from 0 (λ q. omega (arith, q)))
-    (get_or-set_other times.to i k to 0 (λ q. omega (arith, q)))))
-    (ap₂ arrival_of (get_or-set_same times.from i from 0 hf) (get_or-set_same times.to i to 0 ht))
-  where
-    arrival : Times → ℕ → Arrival
-    arrival ts k = arrival_of (get_or ts.from k 0) (get_or ts.to k 0)
+arrivals_more times i span h = ap (map arrival_in) (take_more_set times i span h) ∙ map_push arrival_in (take i times) span
 
 -- the loop's state: i lines are read, and the lines from here are the lines from the start
-pub record ArrivalReading (names : List (List ℕ)) (s : List ℕ) (at : ℕ) (times : Times) (place i : ℕ) : Type 0 where
-  pub most : i ≤ length names
+pub record ArrivalReading (names : List (List ℕ)) (s : List ℕ) (at : ℕ) (times : List Span) (place i : ℕ) : Type 0 where
   pub held : TimesHeld times i
   pub reads : arrival_lines names [] (drop at s) at ≡ arrival_lines (drop i names) (arrivals_in times i) (drop place s) place
 
 pub lines_start : (names : List (List ℕ)) (s : List ℕ) (at : ℕ)
-    → ArrivalReading names s at (record { from = replicate most_inputs 0; to = replicate most_inputs 0 }) at 0
-unfolding arrivals_in range
-lines_start names s at =
-    record {
-      most = omega arith;
-      held = record { from_many = refl; to_many = refl; order = λ i h. absurd (omega arith) };
-      reads = refl;
-    }
+    → ArrivalReading names s at (replicate most_inputs (record { from = 0; to = 0 })) at 0
+unfolding arrivals_in
+lines_start names s at = record { held = record { many = refl; order = All-nil SpanHeld }; reads = refl }
 
-module _ (names : List (List ℕ)) (s : List ℕ) (at : ℕ) (times : Times) (place i : ℕ) (reading : ArrivalReading names s at times place i) where
-  pub lines_done : length names ≤ i → LinesRead names s at (record { step = On 0 place; times = times })
+module _ (names : List (List ℕ)) (s : List ℕ) (at : ℕ) (times : List Span) (place i : ℕ) (reading : ArrivalReading names s at times place i) where
+  pub lines_done : length names ≡ i → LinesRead names s at (Ok (record { times = times; next = place }))
   unfolding arrival_lines
-  lines_done done =
-      let all : length names ≡ i = omega (arith, reading.most) in
+  lines_done all =
+      let done : length names ≤ i = omega arith in
       record {
         reads = rw (reading.reads, drop_of_length-le names done, all) refl;
-        held = λ _ _ _. rw all reading.held;
+        held = λ read q. subst (λ (ts : List Span). TimesHeld ts (length names)) (the_times read q) (rw all reading.held);
       }
+    where
+      the_times : (read : TimesRead) → ◌≡◌ {A = Result TimesRead Refusal} (Ok (record { times = times; next = place })) (Ok read) → times ≡ read.times
+      the_times read q = cc
 
-  module _ (more : i < length names) (name : List ℕ) (is : name ≡ get_or names i []) (line : LineRead) (reads : LineRest s place (arrival_line name) line) where
+  module _ (more : i < length names) (name : List ℕ) (is : name ≡ get_or names i []) (r : Result LineRead Refusal)
+      (reads : LineRest s place (arrival_line name) r) where
     onward : arrival_lines names [] (drop at s) at
-        ≡ then (step_as (λ _. arrival_of line.from line.to) s line.step) (λ a. arrival_lines (drop (i + 1) names) (arrivals_in times i ++ (a ∷ [])))
+        ≡ then (line_as s r) (λ a. arrival_lines (drop (i + 1) names) (arrivals_in times i ++ (a ∷ [])))
     onward =
         reading.reads
         ∙ lines_more names i (arrivals_in times i) (drop place s) place more
         ∙ ap (λ x. then x (λ a. arrival_lines (drop (i + 1) names) (arrivals_in times i ++ (a ∷ []))))
         (ap (λ w. arrival_line w (drop place s) place) (sym is) ∙ sym reads.reads)
 
-    pub arrival_lines_back : (number back : ℕ) → line.step ≡ Back number back → LinesRead names s at (record { step = line.step; times = times })
+    pub arrival_lines_back : (e : Refusal) → r ≡ Err e → LinesRead names s at (Err e)
     unfolding then
-    arrival_lines_back number back e =
-        record {
-          reads = rw (onward, e) refl;
-          held = λ value next q. absurd (never_both line.step number back value next e q);
-        }
+    arrival_lines_back e q = record { reads = rw (onward, q) refl; held = λ read p. absurd (never_both (Err e) e read refl p) }
 
-    pub arrival_lines_next : (value next : ℕ) → i < most_inputs → line.step ≡ On value next
-        → ArrivalReading names s at (stored times i line.from line.to) next (i + 1)
+    pub arrival_lines_next : (line : LineRead) → i < most_inputs → r ≡ Ok line
+        → ArrivalReading names s at (set times i line.span) line.next (i + 1)
     unfolding then
-    arrival_lines_next value next room e =
+    arrival_lines_next line room e =
         let held = reading.held in
-        let hf : i < length times.from = omega (arith, held.from_many) in
-        let ht : i < length times.to = omega (arith, held.to_many) in
+        let fits : i < length times = omega (arith, held.many) in
         record {
-          most = omega arith;
           held =
               record {
-                from_many = length-set times.from i line.from ∙ held.from_many;
-                to_many = length-set times.to i line.to ∙ held.to_many;
-                order = λ k below. order k below hf ht (eqb k i) refl;
+                many = length-set times i line.span ∙ held.many;
+                order =
+                    All-same SpanHeld _ _ (take_more_set times i line.span fits) (All-push SpanHeld (take i times) line.span held.order (reads.held line e));
               };
-          reads = rw (onward, e, arrivals_more times i line.from line.to hf ht) refl;
+          reads = rw (onward, e, arrivals_more times i line.span fits) refl;
         }
-      where
-        order : (k : ℕ) → k < i + 1 → i < length times.from → i < length times.to → (t : Bool) → eqb k i ≡ t
-            → (get_or (set times.from i line.from) k 0 ≤ get_or (set times.to i line.to) k 0) × (get_or (set times.to i line.to) k 0 ≤ most_time)
-        order k below hf ht true q =
-            rw (eqb-true k i q, get_or-set_same times.from i line.from 0 hf, get_or-set_same times.to i line.to 0 ht) (reads.held value next e)
-        order k below hf ht false q =
-            let other = eqb-false k i q in
-            rw (get_or-set_other times.from i k line.from 0 other, get_or-set_other times.to i k line.to 0 other) (reading.held.order k (omega arith))

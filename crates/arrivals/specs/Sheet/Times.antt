@@ -3,8 +3,10 @@
 use Rattle.std.specs.Prelude.{◌<◌, ◌≤◌, ◌+◌, ◌-◌, ◌^◌, ◌*◌, ◌≡◌, ◌&&◌, ◌||◌}
 use Rattle.laws.specs.Prelude.{ℕ, ◌∙◌, sym, ap, refl, true, false, Bool, not, true≢false, and-eq-true_iff}
 use Rattle.laws.specs.Prelude.{and-false, List, pow-suc, pow-le-pow_right, lt_of_lt_of_le, add-one, dec_lt, arith, eqb, leb, length, get_or, drop}
-use Rattle.laws.specs.Prelude.{drop_of_length-le, eqb-true, le-ltb, eqb-false, not-true, le-leb, lt-leb, leb-true, leb-false}
+use Rattle.laws.specs.Prelude.{drop_of_length-le, eqb-true, eqb-false, not-true, le-leb, lt-leb, leb-true, leb-false}
 use Rattle.std.proofs.Math.Option.{Option, none, some}
+use Rattle.std.specs.Char.{is_ascii_digit}
+use Rattle.std.proofs.Math.Dec.{leb-suc-suc}
 use Rattle.rules.specs.Lists.{all}
 use Rattle.rules.specs.Text.{is_digit, value_of, is_decimal, zero_byte}
 use Rattle.rules.specs.Limits.{most_time}
@@ -120,14 +122,10 @@ module _ (least : ℕ) (w : List ℕ) where
 
 -- ---- the digits one by one
 
--- bytes that are not digits
-pub below_digits : (b : ℕ) → b < 48 → is_digit 10 b ≡ false
+-- the digits of ASCII are those of the sheets
+pub ascii_digit : (b : ℕ) → is_ascii_digit b ≡ is_digit 10 b
 unfolding is_digit
-below_digits b h = simp (lt-leb 48 b h)
-
-pub above_digits : (b : ℕ) → 57 < b → is_digit 10 b ≡ false
-unfolding is_digit
-above_digits b h = rw (le-ltb b 58 h) (and-false (leb 48 b))
+ascii_digit b = ap (λ (t : Bool). leb 48 b && t) (sym (leb-suc-suc b 57))
 
 -- the first i bytes are digits, and write `value`
 pub record ArrivalCounted (w : List ℕ) (value i : ℕ) : Type 0 where
@@ -156,11 +154,12 @@ module _ (w : List ℕ) (value i : ℕ) (counted : ArrivalCounted w value i) whe
         let failed : all (is_digit 10) w ≡ false = sym counted.digits ∙ all_stop (is_digit 10) w i h other in
         rw (failed, digits_value) refl
 
-    pub count_next : 48 ≤ get_or w i 0 → get_or w i 0 ≤ 57 → ArrivalCounted w (value * 10 + (get_or w i 0 - 48)) (i + 1)
+    pub count_next : is_digit 10 (get_or w i 0) ≡ true → ArrivalCounted w (value * 10 + (get_or w i 0 - 48)) (i + 1)
     unfolding value_of
-    count_next low high =
+    count_next is =
+        let (low, high) = (digit_iff 10 (get_or w i 0)).0 is in
         record {
           values = sym (ap (value_of value) (rest w i h)) ∙ counted.values;
-          digits = all_next (is_digit 10) w i h ((digit_iff 10 (get_or w i 0)).1 (low, omega arith)) ∙ counted.digits;
+          digits = all_next (is_digit 10) w i h is ∙ counted.digits;
           small = rw (add-one, pow-suc) (omega (arith, counted.small));
         }

@@ -4,6 +4,7 @@ ghost use Rattle.keeping.specs.KeepAnswers.{keeping_of};
 ghost use Rattle.capi.specs.Numbers.Kept.{flat_kept};
 
 use crate::numbers::named::flat_named;
+use answers::named::SheetRefusal;
 use keeping::answer::Kept;
 
 // Number 0: the sheet has `value` bytes, and `changed` is the set of the gates that changed. Otherwise refused with `number` at place `value`, which
@@ -17,25 +18,23 @@ pub struct SitgurpKept {
     pub changed: usize,
 }
 
-pub fn flat_kept(kept: Kept) -> SitgurpKept
-    ensures { result ≡ flat_kept (keeping_of kept) }
-{
-    match kept {
-        Kept::Accepted { length, changed } => SitgurpKept {
-            named: 0,
-            number: 0,
-            value: length,
-            changed,
-        },
-        Kept::Refused {
-            named,
-            number,
-            place,
-        } => SitgurpKept {
-            named: flat_named(named),
-            number,
-            value: place,
-            changed: 0,
-        },
+impl From<Result<Kept, SheetRefusal>> for SitgurpKept {
+    ghost from_gives = { λ kept flat. flat ≡ flat_kept (keeping_of kept) };
+
+    fn from(kept: Result<Kept, SheetRefusal>) -> SitgurpKept {
+        match kept {
+            Ok(kept) => SitgurpKept {
+                named: 0,
+                number: 0,
+                value: kept.length,
+                changed: kept.changed,
+            },
+            Err(refused) => SitgurpKept {
+                named: flat_named(refused.named),
+                number: refused.refusal.kind.number(),
+                value: refused.refusal.place,
+                changed: 0,
+            },
+        }
     }
 }

@@ -4,6 +4,7 @@ ghost use Rattle.answers.specs.Layered.{layered_of};
 ghost use Rattle.capi.specs.Numbers.Layered.{flat_layered};
 
 use answers::layered::Layered;
+use answers::refusal::Refusal;
 
 // Number 0: accepted, `value` is the sheet's length and `layers` the layers of its net. Any other number: that refusal, `value` is its place and
 // `layers` is 0.
@@ -15,19 +16,21 @@ pub struct SitgurpShallow {
     pub layers: usize,
 }
 
-pub fn flat_layered(answer: Layered) -> SitgurpShallow
-    ensures { result ≡ flat_layered (layered_of answer) }
-{
-    match answer {
-        Layered::Accepted { length, layers } => SitgurpShallow {
-            number: 0,
-            value: length,
-            layers,
-        },
-        Layered::Refused { number, place } => SitgurpShallow {
-            number,
-            value: place,
-            layers: 0,
-        },
+impl From<Result<Layered, Refusal>> for SitgurpShallow {
+    ghost from_gives = { λ answer flat. flat ≡ flat_layered (layered_of answer) };
+
+    fn from(answer: Result<Layered, Refusal>) -> SitgurpShallow {
+        match answer {
+            Ok(made) => SitgurpShallow {
+                number: 0,
+                value: made.length,
+                layers: made.layers,
+            },
+            Err(refusal) => SitgurpShallow {
+                number: refusal.kind.number(),
+                value: refusal.place,
+                layers: 0,
+            },
+        }
     }
 }

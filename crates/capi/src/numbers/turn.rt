@@ -3,8 +3,8 @@ ghost use Rattle.std.specs.Prelude.{◌≡◌};
 ghost use Rattle.lister.specs.Calls.{listed_as};
 ghost use Rattle.capi.specs.Numbers.Turn.{flat_turn};
 
-use lister::calls::Listed;
-use lister::turns::Turn;
+use answers::refusal::Refusal;
+use lister::turns::Line;
 
 // Kind 0: no line is left. Kind 1: a gate line of `second` bytes that begins at `first`. Kind 2: the sheet is refused, with number `first` at
 // place `second`.
@@ -16,26 +16,26 @@ pub struct SitgurpTurn {
     pub second: usize,
 }
 
-pub fn flat_turn(listed: Listed) -> SitgurpTurn
-    ensures { result ≡ flat_turn (listed_as listed) }
-{
-    match listed {
-        Listed::Refused { number, place } => SitgurpTurn {
-            kind: 2,
-            first: number,
-            second: place,
-        },
-        Listed::Given(turn) => match turn {
-            Turn::NoneLeft => SitgurpTurn {
+impl From<Result<Option<Line>, Refusal>> for SitgurpTurn {
+    ghost from_gives = { λ listed flat. flat ≡ flat_turn (listed_as listed) };
+
+    fn from(listed: Result<Option<Line>, Refusal>) -> SitgurpTurn {
+        match listed {
+            Ok(None) => SitgurpTurn {
                 kind: 0,
                 first: 0,
                 second: 0,
             },
-            Turn::Line { start, count } => SitgurpTurn {
+            Ok(Some(line)) => SitgurpTurn {
                 kind: 1,
-                first: start,
-                second: count,
+                first: line.start,
+                second: line.count,
             },
-        },
+            Err(refusal) => SitgurpTurn {
+                kind: 2,
+                first: refusal.kind.number(),
+                second: refusal.place,
+            },
+        }
     }
 }

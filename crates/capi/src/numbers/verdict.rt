@@ -4,7 +4,7 @@ ghost use Rattle.checking.specs.CheckAnswers.{verdict_of};
 ghost use Rattle.capi.specs.Numbers.Verdict.{flat_verdict};
 
 use crate::numbers::named::flat_named;
-use checking::verdict::Verdict;
+use answers::named::SheetRefusal;
 
 // Kind 0: they agree. Kind 1: they differ, first at index `value`. Kind 2: refused with `number` at place `value`, which names the
 // net sheet (1), the table sheet (2) or neither (0).
@@ -17,31 +17,29 @@ pub struct SitgurpVerdict {
     pub value: usize,
 }
 
-pub fn flat_verdict(verdict: Verdict) -> SitgurpVerdict
-    ensures { result ≡ flat_verdict (verdict_of verdict) }
-{
-    match verdict {
-        Verdict::Agree => SitgurpVerdict {
-            kind: 0,
-            named: 0,
-            number: 0,
-            value: 0,
-        },
-        Verdict::Differ(index) => SitgurpVerdict {
-            kind: 1,
-            named: 0,
-            number: 0,
-            value: index,
-        },
-        Verdict::Refused {
-            named,
-            number,
-            place,
-        } => SitgurpVerdict {
-            kind: 2,
-            named: flat_named(named),
-            number,
-            value: place,
-        },
+impl From<Result<Option<usize>, SheetRefusal>> for SitgurpVerdict {
+    ghost from_gives = { λ verdict flat. flat ≡ flat_verdict (verdict_of verdict) };
+
+    fn from(verdict: Result<Option<usize>, SheetRefusal>) -> SitgurpVerdict {
+        match verdict {
+            Ok(None) => SitgurpVerdict {
+                kind: 0,
+                named: 0,
+                number: 0,
+                value: 0,
+            },
+            Ok(Some(index)) => SitgurpVerdict {
+                kind: 1,
+                named: 0,
+                number: 0,
+                value: index,
+            },
+            Err(refused) => SitgurpVerdict {
+                kind: 2,
+                named: flat_named(refused.named),
+                number: refused.refusal.kind.number(),
+                value: refused.refusal.place,
+            },
+        }
     }
 }

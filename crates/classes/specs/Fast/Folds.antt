@@ -1,8 +1,8 @@
 -- Several inks as one number. The number determines the inks, so comparing numbers compares the inks.
 -- Assumes nothing.
-use Rattle.std.specs.Prelude.{◌<◌, ◌≤◌, ◌+◌, ◌-◌, ◌*◌, ◌%◌, ◌/◌, ◌≡◌, ◌↔◌}
+use Rattle.std.specs.Prelude.{◌<◌, ◌+◌, ◌-◌, ◌*◌, ◌%◌, ◌/◌, ◌≡◌, ◌↔◌}
 use Rattle.laws.specs.Prelude.{ℕ, ◌∙◌, sym, ap, subst, ap₂, true, List, [], map, Memᴰ, mem_not_nil}
-use Rattle.laws.specs.Prelude.{mem_of_map, mem_map, arith, length, get_or, take, get_or-take, eq-eqb, eqb-true, digits_mod, digits_div}
+use Rattle.laws.specs.Prelude.{mem_of_map, mem_map, arith, length, get_or, get_or-take, eq-eqb, eqb-true, digits_mod, digits_div}
 use Rattle.laws.specs.Prelude.{zero-mul, one-mul, add-zero, suc, zero}
 use Rattle.rules.specs.Lists.{range}
 use Rattle.rules.specs.Groups.Groups.{alike_over}

@@ -1,8 +1,8 @@
 -- Columns whose second half is the first half with a weight added to each: the second level of the first-listed input. The first half is such a list
 -- again, unless it has one column.
 -- Assumes nothing.
-use Rattle.std.specs.Prelude.{◌<◌, ◌≤◌, ◌+◌, ◌*◌, ◌/◌, ◌^◌, ◌≡◌, ◌∷◌}
-use Rattle.laws.specs.Prelude.{ℕ, suc, zero, ◌∙◌, sym, ap, refl, subst, subst⁻¹, ap₂, true, false, Bool, List, []}
+use Rattle.std.specs.Prelude.{◌<◌, ◌≤◌, ◌+◌, ◌/◌, ◌^◌, ◌≡◌}
+use Rattle.laws.specs.Prelude.{ℕ, suc, zero, ◌∙◌, sym, ap, refl, subst, subst⁻¹, ap₂, true, false, Bool, List}
 use Rattle.laws.specs.Prelude.{arith, length, get_or, take, get_or-take, length-take-le, take-take, take-length, zero-add}
 use Rattle.rules.specs.Groups.Groups.{member, points}
 use Rattle.rules.specs.Calls.Answers.{ink_in}

@@ -18,10 +18,8 @@ fn pair_inks(from: &[u8], len: usize, w: usize, base: u8, to: &mut [u8]) -> usiz
         return 0;
     }
     let end = len - w;
-    let mut p: usize = 0;
-    while p < end {
+    for p in 0..end {
         to[p] = from[p + w] * base + from[p];
-        p += 1;
     }
     end
 }

@@ -23,13 +23,7 @@ const KEY_BASE: usize = 5;
 fn pays(m: usize, cells: usize, columns: usize) -> bool
     ensures { result ≡ true → (m ≡ 2) × (8 ≤ columns) }
 {
-    if m != 2 {
-        return false;
-    }
-    if cells <= FEW_CELLS {
-        return false;
-    }
-    8 <= columns
+    m == 2 && FEW_CELLS < cells && 8 <= columns
 }
 
 // As `class_firsts`, over folded cells.

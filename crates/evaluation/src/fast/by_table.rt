@@ -16,10 +16,8 @@ fn step_indices(m: u16, start: usize, count: usize, wires: &[u8], indices: &mut 
     requires { StepReady m start count wires.now indices.old }
     ensures { Run 0 count (index_step m start wires.now indices.old) indices.old indices.new }
 {
-    let mut p: usize = 0;
-    while p < count {
-        indices[p] = indices[p] * m + wires[start + p] as u16;
-        p += 1;
+    for (p, level) in wires[start..start + count].iter().enumerate() {
+        indices[p] = indices[p] * m + *level as u16;
     }
 }
 
@@ -28,10 +26,8 @@ fn look_up(cells: &[u8], indices: &[u16], to: usize, count: usize, wires: &mut [
     requires { LookReady cells.now indices.now to count wires.old }
     ensures { Run to count (index_cell cells.now indices.now) wires.old wires.new }
 {
-    let mut p: usize = 0;
-    while p < count {
-        wires[to + p] = cells[indices[p] as usize];
-        p += 1;
+    for (p, index) in indices[..count].iter().enumerate() {
+        wires[to + p] = cells[*index as usize];
     }
 }
 
@@ -50,10 +46,8 @@ pub fn table_values(
     table(net, &mut cells);
     let m = net.levels as u16;
     let mut indices = [0u16; MOST_INDICES];
-    let mut i: usize = 0;
-    while i < net.inputs {
-        step_indices(m, starts[i], count, wires, &mut indices);
-        i += 1;
+    for start in &starts[..net.inputs] {
+        step_indices(m, *start, count, wires, &mut indices);
     }
     look_up(&cells, &indices, base, count, wires);
     base

@@ -31,11 +31,9 @@ pub fn two_level_values(
     let b = digits[from + 1];
     let c = digits[from + 2];
     let d = digits[from + 3];
-    let mut p: usize = 0;
-    while p < count {
+    for p in 0..count {
         let l = wires[left + p];
         let r = wires[right + p];
         wires[to + p] = two_level_digit(l, r, a, b, c, d);
-        p += 1;
     }
 }

@@ -25,11 +25,9 @@ fn paint_row(
     requires { RowCells inner digits.now row step place lists.now (length cells.old) }
     ensures { RowPainted inner digits.now row step place lists.now inner.count cells.old cells.new }
 {
-    let mut j: usize = 0;
-    while j < inner.count {
-        let b = lists[inner.start + j] as usize;
+    for entry in &lists[inner.start..inner.start + inner.count] {
+        let b = *entry as usize;
         cells[place + b / 16] = digits[row + b % 16 * step];
-        j += 1;
     }
 }
 
@@ -39,9 +37,8 @@ fn paint(order: Order, digits: &[u8], from: usize, offset: usize, lists: &[u16],
     ensures { AllPainted order digits.now from offset lists.now order.outer.count cells.old cells.new }
 {
     let outer = order.outer;
-    let mut i: usize = 0;
-    while i < outer.count {
-        let a = lists[outer.start + i] as usize;
+    for entry in &lists[outer.start..outer.start + outer.count] {
+        let a = *entry as usize;
         paint_row(
             order.inner,
             digits,
@@ -51,7 +48,6 @@ fn paint(order: Order, digits: &[u8], from: usize, offset: usize, lists: &[u16],
             lists,
             cells,
         );
-        i += 1;
     }
 }
 
@@ -65,10 +61,8 @@ fn paint_copies(net: Net, last: Order, lists: &[u16], cells: &mut [u8]) -> usize
     let group = last.outer.group + last.inner.group;
     let mut offsets = [0u16; MOST_CELLS];
     let count = other_offsets(net.levels, net.inputs, group, &mut offsets);
-    let mut h: usize = 0;
-    while h < count {
-        paint(last, &digits, from, offsets[h] as usize, lists, cells);
-        h += 1;
+    for offset in &offsets[..count] {
+        paint(last, &digits, from, *offset as usize, lists, cells);
     }
     power(net.levels, net.inputs)
 }

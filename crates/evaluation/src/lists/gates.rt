@@ -7,6 +7,7 @@ use crate::lists::order::{Order, Span, joined_span, shorter_outside};
 use nets::forms::{MOST_WIRES, Net};
 
 // Writes the lists of all gates but the last, after those of the inputs, and returns the last gate's two lists.
+#[tactic(auto, using(crate::proofs::Gates::gate_places))]
 pub fn lay_gates(net: Net, inputs: [Span; MOST_WIRES], lists: &mut [u16]) -> Order
     requires { Sound net × WiresListed net net.inputs inputs lists.old }
     ensures { NetListed net lists.new result }
@@ -17,8 +18,8 @@ pub fn lay_gates(net: Net, inputs: [Span; MOST_WIRES], lists: &mut [u16]) -> Ord
     let size = net.levels * net.levels;
     let mut spans = inputs;
     let mut to = net.inputs * net.levels;
-    let mut k: usize = 0;
-    while k + 1 < net.gates {
+    let last = net.gates - 1;
+    for k in 0..last {
         let l = spans[left[k] as usize];
         let r = spans[right[k] as usize];
         let gate = joined_span(l, r, to);
@@ -26,11 +27,10 @@ pub fn lay_gates(net: Net, inputs: [Span; MOST_WIRES], lists: &mut [u16]) -> Ord
         join(order, &digits, k * size, to, lists);
         spans[net.inputs + k] = gate;
         to += gate.count;
-        k += 1;
     }
     shorter_outside(
         net.levels,
-        spans[left[k] as usize],
-        spans[right[k] as usize],
+        spans[left[last] as usize],
+        spans[right[last] as usize],
     )
 }

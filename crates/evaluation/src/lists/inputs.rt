@@ -14,10 +14,8 @@ fn lay_input(m: usize, weight: usize, at: usize, lists: &mut [u16])
     requires { InputReady m weight at lists.old }
     ensures { Run at m (input_entry weight) lists.old lists.new }
 {
-    let mut l: usize = 0;
-    while l < m {
+    for l in 0..m {
         lists[at + l] = (l * (weight * 16 + 1)) as u16;
-        l += 1;
     }
 }
 
@@ -36,8 +34,7 @@ pub fn lay_inputs(net: Net, lists: &mut [u16]) -> [Span; MOST_WIRES]
     let mut weight = power(m, net.inputs);
     let mut at: usize = 0;
     let mut bit: usize = 1;
-    let mut i: usize = 0;
-    while i < net.inputs {
+    for i in 0..net.inputs {
         weight = weight / m;
         lay_input(m, weight, at, lists);
         spans[i] = Span {
@@ -47,7 +44,6 @@ pub fn lay_inputs(net: Net, lists: &mut [u16]) -> [Span; MOST_WIRES]
         };
         at += m;
         bit += bit;
-        i += 1;
     }
     spans
 }

@@ -18,12 +18,10 @@ fn join_row(
     requires { RowReady inner digits.now row step place to lists.old }
     ensures { RowDone inner digits.now row step place to lists.old lists.new }
 {
-    let mut j: usize = 0;
-    while j < inner.count {
+    for j in 0..inner.count {
         let b = lists[inner.start + j] as usize;
         let digit = digits[row + b % 16 * step] as usize;
         lists[to + j] = ((place + b / 16) * 16 + digit) as u16;
-        j += 1;
     }
 }
 
@@ -35,8 +33,7 @@ pub fn join(order: Order, digits: &[u8], from: usize, to: usize, lists: &mut [u1
     let outer = order.outer;
     let inner = order.inner;
     let mut at = to;
-    let mut i: usize = 0;
-    while i < outer.count {
+    for i in 0..outer.count {
         let a = lists[outer.start + i] as usize;
         join_row(
             inner,
@@ -48,6 +45,5 @@ pub fn join(order: Order, digits: &[u8], from: usize, to: usize, lists: &mut [u1
             lists,
         );
         at += inner.count;
-        i += 1;
     }
 }

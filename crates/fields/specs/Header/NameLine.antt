@@ -1,32 +1,33 @@
 -- Line 3, name by name; the first three lines.
 -- Assumes nothing.
-use Rattle.std.specs.Prelude.{◌<◌, ◌≤◌, ◌+◌, ◌-◌, ◌≡◌, ◌∷◌, ◌++◌}
-use Rattle.laws.specs.Prelude.{ℕ, suc, zero, ◌∙◌, sym, ap, refl, true, false, Bool, List, [], map, zero-add, sub-zero}
+use Rattle.std.specs.Prelude.{◌<◌, ◌≤◌, ◌+◌, ◌-◌, ◌≡◌, ◌∷◌, ◌++◌, Result, Ok, Err}
+use Rattle.laws.specs.Prelude.{ℕ, suc, zero, ◌∙◌, sym, ap, subst, refl, true, false, Bool, List, [], map, zero-add, sub-zero}
 use Rattle.laws.specs.Prelude.{add-one, arith, eqb, length, get_or, take, drop, set, length-set, get_or-set_same, get_or-set_other, eqb-true, eqb-false}
 use Rattle.laws.specs.Lists.Concat.{map-append}
 use Rattle.laws.specs.Lists.Ranges.{range_suc, map_range_same}
 use Rattle.laws.specs.Lists.Runs.{run_front}
 use Rattle.rules.specs.Lists.{range}
 use Rattle.rules.specs.Text.{space, space_byte}
-use Rattle.rules.specs.Sheets.Fields.{good, then, give, field_in, run, Layout}
+use Rattle.rules.specs.Sheets.Sheets as sheets
+use Rattle.rules.specs.Sheets.Fields.{Read, good, then, give, field_in, run, Layout}
 use Rattle.rules.specs.Sheets.Sheets.{name_field, name_fields_in}
 use Rattle.rules.specs.Limits.{most_inputs, most_name_bytes}
 use Rattle.nets.specs.Forms.{no_names_of, name_in, header_of, NamesHeld}
 use Rattle.nets.specs.declared.forms.Header.{Header}
 use Rattle.fields.specs.Chained.{never_both}
 use Rattle.fields.specs.Judging.{field_tested_in}
-use Rattle.fields.specs.Steps.{tested, judged_as, judged_field_in, step_as, itself}
+use Rattle.answers.specs.declared.refusal.Kind.TheVariants as kinds
+use Rattle.answers.specs.declared.refusal.Refusal.{Refusal}
+use Rattle.fields.specs.Steps.{Step, Verdict, tested, judged_as, judged_field_in, read_as, step_as, itself}
+use Rattle.fields.specs.declared.steps.Field.{Field}
 use Rattle.fields.specs.Taken.{TakenIn, field_on_in}
-use Rattle.fields.specs.declared.steps.Step.{Step}
-use Rattle.fields.specs.declared.steps.Step.TheVariants.{On, Back}
-use Rattle.fields.specs.declared.steps.Verdict.{Verdict}
 use Rattle.fields.specs.Header.Names.{is_new, new_short}
 use Rattle.fields.specs.declared.header.name_line.HeaderRead.{HeaderRead}
 
 -- reading a name at `at`
 pub record NameRead (layout : Layout) (s : List ℕ) (at due : ℕ) (earlier : List (List ℕ)) (r : Step) : Type 0 where
   pub reads : step_as (λ len. take len (drop at s)) s r ≡ field_in layout (name_field earlier) due (drop at s) at
-  pub held : (len next : ℕ) → r ≡ On len next → (len ≤ most_name_bytes) × (at + len ≤ length s)
+  pub held : (field : Field) → r ≡ Ok field → (field.value ≤ most_name_bytes) × (at + field.value ≤ length s)
 
 -- the separator required after a name, by the number of names left
 unfoldable pub due_before : ℕ → ℕ → ℕ
@@ -51,32 +52,39 @@ due_space i n last h e = sym (ap (λ k. due_before k last) some_left)
 abbrev pub NamesShort : Header → ℕ → Type 0
 NamesShort h count = (i : ℕ) → i < count → get_or h.lens i 0 ≤ most_name_bytes
 
+-- a header that was read, in the definitions
+abbrev pub header_as : List ℕ → Result HeaderRead Refusal → Read sheets.Header
+header_as s r = read_as (λ read. header_of s read.header) (λ read. read.next) s r
+
+-- the properties of a header with n names under m levels
+pub record NamesTold (s : List ℕ) (m n : ℕ) (h : Header) : Type 0 where
+  pub levels : h.levels ≡ m
+  pub inputs : h.inputs ≡ n
+  pub held : NamesHeld s h n
+  pub short : NamesShort h n
+
 -- reading n names from `at` on, under m levels
-pub record NamesRead (layout : Layout) (s : List ℕ) (at m n last : ℕ) (r : HeaderRead) : Type 0 where
-  pub reads : step_as (λ _. header_of s r.header) s r.step
-      ≡ then (name_fields_in layout last n [] (drop at s) at) (λ names. give (record { levels = m; inputs = n; names = names }))
-  pub levels : r.header.levels ≡ m
-  pub inputs : r.header.inputs ≡ n
-  pub held : (value next : ℕ) → r.step ≡ On value next → NamesHeld s r.header n
-  pub short : (value next : ℕ) → r.step ≡ On value next → NamesShort r.header n
+pub record NamesRead (layout : Layout) (s : List ℕ) (at m n last : ℕ) (r : Result HeaderRead Refusal) : Type 0 where
+  pub reads : header_as s r ≡ then (name_fields_in layout last n [] (drop at s) at) (λ names. give (record { levels = m; inputs = n; names = names }))
+  pub told : (read : HeaderRead) → r ≡ Ok read → NamesTold s m n read.header
 
 -- ---- a name
 
 pub name_read : (layout : Layout) (s : List ℕ) (at due : ℕ) (earlier : List (List ℕ)) (w : List ℕ) (test : Bool) (v : Verdict) (r : Step) → w ≡ run (drop at s)
-    → test ≡ is_new earlier w → v ≡ tested test (length w) 4 → step_as itself s r ≡ judged_field_in layout v due s at → NameRead layout s at due earlier r
+    → test ≡ is_new earlier w → v ≡ tested test (length w) kinds.Name → step_as itself s r ≡ judged_field_in layout v due s at → NameRead layout s at due earlier r
 unfolding tested judged_field_in name_field
 name_read layout s at due earlier w test v r is new e after =
     record {
-      reads = field_tested_in (λ len. take len (drop at s)) layout (name_field earlier) due s at w test (length w) 4 v r is e (rw (front, new) refl) after;
-      held = λ len next q.
-          let told = field_on_in s r at len next q layout itself (λ _. judged_as itself v) due after in
-          go test new len next (ap (judged_as itself) (sym e) ∙ told.judged) told;
+      reads = field_tested_in (λ len. take len (drop at s)) layout (name_field earlier) due s at w test (length w) kinds.Name v r is e (rw (front, new) refl) after;
+      held = λ field q.
+          let told = field_on_in s r at field q layout itself (λ _. judged_as itself v) due after in
+          go test new field.value field.next (ap (judged_as itself) (sym e) ∙ told.judged) told;
     }
   where
     front : take (length w) (drop at s) ≡ w
     front = rw is (run_front (drop at s))
 
-    go : (t : Bool) → t ≡ is_new earlier w → (len next : ℕ) → judged_as itself (tested t (length w) 4) ≡ good len → TakenIn (λ _. judged_as itself v) len s at next
+    go : (t : Bool) → t ≡ is_new earlier w → (len next : ℕ) → judged_as itself (tested t (length w) kinds.Name) ≡ good len → TakenIn (λ _. judged_as itself v) len s at next
         → (len ≤ most_name_bytes) × (at + len ≤ length s)
     go true is_new_lem len next good_len told =
         let long : length w ≡ len = cc in
@@ -165,15 +173,12 @@ names_short h i start len hl short fits k below = go (eqb k i) refl
     go false q = rw (get_or-set_other h.lens i k len 0 (eqb-false k i q)) (short k (omega (arith, eqb-false k i q)))
 
 module _ (layout : Layout) (s : List ℕ) (at m n last : ℕ) (h : Header) (place i : ℕ) (reading : Reading layout s at m n last h place i) where
-  pub names_done : n ≤ i → NamesRead layout s at m n last (record { step = On 0 place; header = h })
+  pub names_done : n ≤ i → NamesRead layout s at m n last (Ok (record { header = h; next = place }))
   unfolding name_fields_in then header_of
   names_done done =
       record {
         reads = rw (reading.reads, none_left, reading.levels, reading.inputs, all_read) refl;
-        levels = reading.levels;
-        inputs = reading.inputs;
-        held = λ _ _ _ k below. reading.held k (omega (arith, below));
-        short = λ _ _ _ k below. reading.short k (omega (arith, below));
+        told = λ read e. subst (NamesTold s m n) (the_header read e) here;
       }
     where
       none_left : n - i ≡ 0
@@ -181,6 +186,18 @@ module _ (layout : Layout) (s : List ℕ) (at m n last : ℕ) (h : Header) (plac
 
       all_read : n ≡ i
       all_read = omega (arith, reading.most)
+
+      the_header : (read : HeaderRead) → ◌≡◌ {A = Result HeaderRead Refusal} (Ok (record { header = h; next = place })) (Ok read) → h ≡ read.header
+      the_header read e = cc
+
+      here : NamesTold s m n h
+      here =
+          record {
+            levels = reading.levels;
+            inputs = reading.inputs;
+            held = λ k below. reading.held k (omega (arith, below));
+            short = λ k below. reading.short k (omega (arith, below));
+          }
 
   module _ (r : Step) (due : ℕ) (more : i < n) (is_due : due ≡ due_before (n - (i + 1)) last) (name : NameRead layout s place due (names_to s h i) r) where
     onward : name_fields_in layout last n [] (drop at s) at
@@ -192,29 +209,22 @@ module _ (layout : Layout) (s : List ℕ) (at m n last : ℕ) (h : Header) (plac
         ∙ ap (λ x. then x (λ w. name_fields_in layout last (n - (i + 1)) (names_to s h i ++ (w ∷ []))))
         (ap (λ d. field_in layout (name_field (names_to s h i)) d (drop place s) place) (sym is_due) ∙ sym name.reads)))
 
-    pub names_back : (number back : ℕ) → r ≡ Back number back → NamesRead layout s at m n last (record { step = r; header = h })
+    pub names_back : (e : Refusal) → r ≡ Err e → NamesRead layout s at m n last (Err e)
     unfolding then
-    names_back number back e =
-        record {
-          reads = rw (onward, e) refl;
-          levels = reading.levels;
-          inputs = reading.inputs;
-          held = λ value next q. absurd (never_both r number back value next e q);
-          short = λ value next q. absurd (never_both r number back value next e q);
-        }
+    names_back e is = record { reads = rw (onward, is) refl; told = λ read q. absurd (never_both (Err e) e read refl q) }
 
-    pub names_next : (len next : ℕ) → n ≤ most_inputs → r ≡ On len next → Reading layout s at m n last (named h i place len) next (i + 1)
+    pub names_next : (field : Field) → n ≤ most_inputs → r ≡ Ok field → Reading layout s at m n last (named h i place field.value) field.next (i + 1)
     unfolding then
-    names_next len next few e =
+    names_next field few e =
         record {
           levels = reading.levels;
           inputs = reading.inputs;
           starts = length-set h.starts i place ∙ reading.starts;
-          lens = length-set h.lens i len ∙ reading.lens;
+          lens = length-set h.lens i field.value ∙ reading.lens;
           most = omega arith;
           held =
-              names_held s h i place len (omega (arith, reading.starts)) (omega (arith, reading.lens)) reading.held
-              (name.held len next e).1;
-          short = names_short h i place len (omega (arith, reading.lens)) reading.short (name.held len next e).0;
-          reads = rw (onward, e, names_stay s h i place len (omega (arith, reading.starts)) (omega (arith, reading.lens))) refl;
+              names_held s h i place field.value (omega (arith, reading.starts)) (omega (arith, reading.lens)) reading.held
+              (name.held field e).1;
+          short = names_short h i place field.value (omega (arith, reading.lens)) reading.short (name.held field e).0;
+          reads = rw (onward, e, names_stay s h i place field.value (omega (arith, reading.starts)) (omega (arith, reading.lens))) refl;
         }

@@ -1,6 +1,6 @@
 -- The levels field, by its byte; the inputs field, by the number whose decimal value it is.
 -- Assumes nothing.
-use Rattle.std.specs.Prelude.{◌<◌, ◌≤◌, ◌+◌, ◌-◌, ◌^◌, ◌≡◌, ◌∷◌}
+use Rattle.std.specs.Prelude.{◌<◌, ◌≤◌, ◌+◌, ◌-◌, ◌^◌, ◌≡◌, ◌∷◌, Option, Some, None}
 use Rattle.laws.specs.Prelude.{ℕ, ◌∙◌, sym, ap, refl, and-false, List, [], arith, length, get_or, lt-ltb, le-ltb, le-leb}
 use Rattle.laws.specs.Prelude.{lt-leb}
 use Rattle.std.proofs.Math.Option.{some}
@@ -10,8 +10,6 @@ use Rattle.rules.specs.Sheets.Fields.{good, bad}
 use Rattle.rules.specs.Sheets.Sheets.{levels_field, inputs_of, inputs_field}
 use Rattle.laws.specs.Lists.Finds.{found_is, first_in_range}
 use Rattle.fields.specs.Steps.{option_of}
-use Rattle.fields.specs.declared.steps.Found.{Found}
-use Rattle.fields.specs.declared.steps.Found.TheVariants.{At, Nowhere}
 use Rattle.laws.specs.Lists.Places.{one_byte}
 
 pub levels_long : (w : List ℕ) → (length w ≡ 1 → ⊥) → bad 2 ≡ levels_field w
@@ -44,11 +42,11 @@ inputs_range : (w : List ℕ) (n : ℕ) → inputs_of w ≡ some n → (fewest_i
 unfolding inputs_of
 inputs_range w n e = let f = found_is (first_in_range _ fewest_inputs (most_inputs + 1 - fewest_inputs)) n e in (f.0, omega (arith, f.1))
 
-pub inputs_none : (w : List ℕ) (m : ℕ) (r : Found) → option_of r ≡ inputs_of w → r ≡ Nowhere → bad 3 ≡ inputs_field m w
+pub inputs_none : (w : List ℕ) (m : ℕ) (r : Option ℕ) → option_of r ≡ inputs_of w → r ≡ None → bad 3 ≡ inputs_field m w
 unfolding inputs_field
 inputs_none w m r e q = rw (sym e ∙ ap option_of q, inputs_field)
 
-module _ (w : List ℕ) (m n p : ℕ) (r : Found) (e : option_of r ≡ inputs_of w) (q : r ≡ At n) where
+module _ (w : List ℕ) (m n p : ℕ) (r : Option ℕ) (e : option_of r ≡ inputs_of w) (q : r ≡ Some n) where
   inputs_are : inputs_of w ≡ some n
   inputs_are = sym e ∙ ap option_of q
 

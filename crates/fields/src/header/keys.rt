@@ -9,9 +9,7 @@ pub fn key_of(w: &[u8]) -> u64
     ensures { IsKey w.now result }
 {
     let mut key: u64 = 0;
-    let mut i = w.len();
-    while 0 < i {
-        i -= 1;
+    for i in (0..w.len()).rev() {
         let byte = w[i] as u64;
         key = key * 256 + byte;
     }

@@ -9,14 +9,15 @@ ghost use Rattle.fields.specs.Header.NameLine.{NameRead, due_before, NamesRead};
 use crate::ends::{after_field_in, judged};
 use crate::header::names::is_new_name;
 use crate::runs::{SPACE, field_at};
-use crate::steps::{Layout, Step};
+use crate::steps::{Field, Layout};
+use answers::refusal::{Kind, Refusal};
 use nets::forms::{Header, no_names};
 
-// The result of reading line 3. The header is complete if the step is `On`.
+// A header that was read, and where reading continues.
 #[derive(Clone, Copy)]
 pub struct HeaderRead {
-    pub step: Step,
     pub header: Header,
+    pub next: usize,
 }
 
 // Reads the name after the first `count`; an accepting step returns its length.
@@ -27,12 +28,12 @@ pub fn name_field(
     count: usize,
     due: u8,
     layout: Layout,
-) -> Step
+) -> Result<Field, Refusal>
     requires { (count ≤ most_inputs) × NamesHeld s.now header count }
     ensures { NameRead (layout_of layout) s.now at due (map (name_in s.now header) (range 0 count)) result }
 {
     let w = field_at(s, at);
-    let verdict = judged(is_new_name(s, header, count, w), w.len(), 4);
+    let verdict = judged(is_new_name(s, header, count, w), w.len(), Kind::Name);
     after_field_in(s, at, w, verdict, due, layout)
 }
 
@@ -55,34 +56,21 @@ pub fn name_fields(
     inputs: usize,
     last: u8,
     layout: Layout,
-) -> HeaderRead
+) -> Result<HeaderRead, Refusal>
     requires { inputs ≤ most_inputs }
     ensures { NamesRead (layout_of layout) s.now at levels inputs last result }
 {
     let mut header = no_names(levels, inputs);
     let mut place = at;
-    let mut i: usize = 0;
-    while i < inputs {
+    for i in 0..inputs {
         let due = due_after(i, inputs, last);
-        let step = name_field(s, place, header, i, due, layout);
-        match step {
-            Step::Back {
-                number: _,
-                place: _,
-            } => return HeaderRead { step, header },
-            Step::On { value, next } => {
-                header.starts[i] = place;
-                header.lens[i] = value as u8;
-                place = next;
-                i += 1;
-            }
-        }
+        let name = name_field(s, place, header, i, due, layout)?;
+        header.starts[i] = place;
+        header.lens[i] = name.value as u8;
+        place = name.next;
     }
-    HeaderRead {
-        step: Step::On {
-            value: 0,
-            next: place,
-        },
+    Ok(HeaderRead {
         header,
-    }
+        next: place,
+    })
 }

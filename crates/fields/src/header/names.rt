@@ -8,6 +8,7 @@ ghost use Rattle.fields.specs.Header.Names.{is_name_byte, is_new};
 
 use crate::same::same_bytes;
 use nets::forms::Header;
+use nets::names::name_of;
 use radix::limits;
 
 // Tests whether b is a lowercase letter.
@@ -37,14 +38,7 @@ pub fn is_name_byte(b: u8) -> bool
 pub fn are_name_bytes(w: &[u8]) -> bool
     ensures { result ≡ all is_name_byte w.now }
 {
-    let mut i: usize = 0;
-    while i < w.len() {
-        if !is_name_byte(w[i]) {
-            return false;
-        }
-        i += 1;
-    }
-    true
+    w.iter().all(|b| is_name_byte(*b))
 }
 
 // Tests whether w is a name.
@@ -71,14 +65,10 @@ pub fn is_repeated(s: &[u8], header: Header, count: usize, w: &[u8]) -> bool
     requires { (count ≤ most_inputs) × NamesHeld s.now header count }
     ensures { result ≡ any (same w.now) (map (name_in s.now header) (range 0 count)) }
 {
-    let mut i: usize = 0;
-    while i < count {
-        let start = header.starts[i];
-        let end = start + header.lens[i] as usize;
-        if same_bytes(w, &s[start..end]) {
+    for i in 0..count {
+        if same_bytes(w, name_of(s, header, i)) {
             return true;
         }
-        i += 1;
     }
     false
 }

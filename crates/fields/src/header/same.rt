@@ -15,12 +15,10 @@ fn same_names(s: &[u8], h: Header, t: &[u8], k: Header, n: usize) -> bool
     requires { (n ≤ most_inputs) × NamesHeld s.now h n × NamesHeld t.now k n }
     ensures { result ≡ same_names_of (map (name_in s.now h) (range 0 n)) (map (name_in t.now k) (range 0 n)) }
 {
-    let mut i: usize = 0;
-    while i < n {
+    for i in 0..n {
         if !same_bytes(name_of(s, h, i), name_of(t, k, i)) {
             return false;
         }
-        i += 1;
     }
     true
 }

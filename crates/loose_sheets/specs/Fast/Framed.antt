@@ -1,6 +1,6 @@
 -- A row that matches its frame is read in one step: the weights of its levels sum to its index.
 -- Assumes nothing.
-use Rattle.std.specs.Prelude.{◌<◌, ◌≤◌, ◌+◌, ◌-◌, ◌^◌, ◌*◌, ◌%◌, ◌≡◌}
+use Rattle.std.specs.Prelude.{◌<◌, ◌≤◌, ◌+◌, ◌-◌, ◌^◌, ◌*◌, ◌%◌, ◌≡◌, Ok}
 use Rattle.laws.specs.Prelude.{ℕ, suc, ◌∙◌, sym, ap, refl, true, List, zero-mul, pow-zero, mul-one, mul_assoc, add-mul}
 use Rattle.laws.specs.Prelude.{mul-zero, pow-succ', arith, length, get_or, drop}
 use Rattle.rules.specs.Text.{zero_byte, space_byte}
@@ -9,7 +9,7 @@ use Rattle.rules.specs.Sheets.Fields.{field_in, loose}
 use Rattle.rules.specs.Sheets.LooseSheet.{any_level}
 use Rattle.fields.specs.Runs.{spaces_end, spaces_here, spaces_later}
 use Rattle.fields.specs.Steps.{step_as, itself}
-use Rattle.fields.specs.declared.steps.Step.TheVariants.{On}
+use Rattle.fields.specs.declared.steps.Field.{Field}
 use Rattle.loose_sheets.specs.Fast.Frame.{SpaceAt, LevelAt, LooseLaid, laid_none, laid_space, laid_level, Framed}
 use Rattle.loose_sheets.specs.Fast.Matching.{FitsAt, Fit, counted, counted_next, counted_on, InFrame, in_steps, steps_bounds}
 use Rattle.laws.specs.Numbers.Sizes.{sized}
@@ -72,7 +72,10 @@ module _ (s : List ℕ) (at m n : ℕ) (few : m ≤ most_levels) (frame : List �
     next : ℕ
     next = spaces_end s (at + j + 2)
 
-    level : step_as itself s (On d (spaces_end s (at + j + 2))) ≡ field_in loose (any_level m) space_byte (drop before.place s) before.place
+    abbrev found : Field
+    found = record { value = d; next = spaces_end s (at + j + 2) }
+
+    level : step_as itself s (Ok found) ≡ field_in loose (any_level m) space_byte (drop before.place s) before.place
     level =
         let here : before.place ≡ at + j = before.here (omega (arith, room)) (λ e. omega (arith, e, byte)) in
         rw here (plain_level s (at + j) m d below stands)
@@ -97,8 +100,7 @@ module _ (s : List ℕ) (at m n : ℕ) (few : m ≤ most_levels) (frame : List �
           index = before.index * m + d;
           here = λ within other. ap (spaces_end s) two ∙ spaces_here s (at + (j + 2)) within other;
           past = λ _. ap (spaces_end s) two;
-          reads = index_next s at m n before.place before.index i before.reads fewer (On d (spaces_end s (at + j + 2))) level d
-              (spaces_end s (at + j + 2)) refl;
+          reads = index_next s at m n before.place before.index i before.reads fewer (Ok found) level found refl;
           counts = counts_more;
         }
 
@@ -160,7 +162,7 @@ module _ (s : List ℕ) (at m n : ℕ) (size : size_fits m n ≡ true) (frame : 
       ∙ (before_ink.counts ∙ rw (none_left, pow-zero, mul-one) refl)) in
       omega (arith, row.fitted.sum, all, before_ink.reads.below, (sized m n size).cells_most)
 
-  pub framed_reads : IndexRead s at m n (On r (at + width))
+  pub framed_reads : IndexRead s at m n (Ok (record { value = r; next = at + width }))
   framed_reads =
       rw (index_is, ← (before_ink.here ink_within row.other))
       (index_done s at m n before_ink.place before_ink.index n before_ink.reads (omega arith))

@@ -1,9 +1,10 @@
 -- A row is laid out place by place, over places that have no weight yet.
 -- Assumes nothing.
 use Rattle.std.specs.Prelude.{◌<◌, ◌≤◌, ◌+◌, ◌-◌, ◌^◌, ◌≡◌, ◌≢◌}
-use Rattle.laws.specs.Prelude.{ℕ, ◌∙◌, refl, subst, true, false, Bool, List, arith, length, get_or, set, length-set}
+use Rattle.laws.specs.Prelude.{ℕ, ◌∙◌, refl, subst, le_trans, pow-le-pow_right, true, false, Bool, List, arith, length, get_or, set, length-set}
 use Rattle.laws.specs.Prelude.{get_or-set_same, get_or-set_other, eqb, eqb-true, eqb-false}
-use Rattle.rules.specs.Limits.{most_cells}
+use Rattle.rules.specs.Limits.{most_cells, size_fits}
+use Rattle.laws.specs.Numbers.Sizes.{Size, sized}
 use Rattle.loose_sheets.specs.Fast.Frame.{most_laid, frame_length, PlaceAt, LevelAt, LooseLaid, laid_none, laid_space, laid_level, Framed}
 
 -- no place has a weight
@@ -82,6 +83,12 @@ module _ (frame : List ℕ) (j shift least weight : ℕ) where
 
 -- ---- the steps
 
+-- the weight of a level is light
+pub level_light : (m n i : ℕ) → size_fits m n ≡ true → m ^ (n - (i + 1)) ≤ most_cells
+level_light m n i fits =
+    let size : Size m n = sized m n fits in
+    le_trans (pow-le-pow_right (omega (arith, size.levels_least)) (omega arith)) size.cells_most
+
 pub laying_start : (m n : ℕ) (frame : List ℕ) → Unlaid frame → Laying m n frame 0 0
 laying_start m n frame unlaid =
     record {
@@ -93,7 +100,7 @@ laying_start m n frame unlaid =
     }
 
 module _ (m n : ℕ) (frame : List ℕ) (i j : ℕ) (before : Laying m n frame i j) where
-  -- no frame, ..
+  -- no frame
   pub laying_none : Framed m n frame 0
   laying_none =
       record {
@@ -102,17 +109,6 @@ module _ (m n : ℕ) (frame : List ℕ) (i j : ℕ) (before : Laying m n frame i
         most = omega arith;
         laid = λ some. absurd (omega (arith, some));
         rest = λ some. absurd (omega (arith, some));
-      }
-
-  -- .. or one whose ink is here
-  pub laying_done : i ≡ n → j < most_laid → Framed m n frame j
-  laying_done all low =
-      record {
-        long = before.long;
-        light = before.light;
-        most = omega (arith, low);
-        laid = λ _. subst (λ (h : ℕ). LooseLaid frame m n j h) all before.laid;
-        rest = λ _. before.rest;
       }
 
   pub laying_space : 0 < i → j < most_laid → Laying m n (placed frame j 65503 65535 0) i (j + 1)

@@ -1,8 +1,8 @@
 -- A row matches its frame, and its bytes have a weighted sum.
 -- Assumes nothing.
-use Rattle.std.specs.Prelude.{◌<◌, ◌≤◌, ◌+◌, ◌*◌, ◌%◌, ◌/◌, ◌^◌, ◌≡◌}
-use Rattle.laws.specs.Prelude.{ℕ, suc, zero, ◌∙◌, ap, refl, true, false, Bool, List, mul-zero, add-one, arith, ltb}
-use Rattle.laws.specs.Prelude.{length, get_or, ltb-true, ltb-false}
+use Rattle.std.specs.Prelude.{◌<◌, ◌≤◌, ◌+◌, ◌*◌, ◌%◌, ◌/◌, ◌^◌, ◌≡◌, Option, Some, None, IfSome}
+use Rattle.laws.specs.Prelude.{ℕ, suc, zero, ◌∙◌, ap, refl, List, mul-zero, add-one, arith}
+use Rattle.laws.specs.Prelude.{length, get_or}
 use Rattle.rules.specs.Text.{space_byte}
 use Rattle.loose_sheets.specs.Fast.Frame.{most_laid}
 
@@ -15,13 +15,6 @@ module _ (s : List ℕ) (at : ℕ) (frame : List ℕ) where
   -- the first `to` bytes fit
   abbrev pub Fit : ℕ → Type 0
   Fit to = (k : ℕ) → k < to → FitsAt k
-
-  pub fit_next : (k : ℕ) → Fit k → FitsAt k → Fit (k + 1)
-  fit_next k fit here q b = go (ltb q k) refl
-    where
-      go : (t : Bool) → ltb q k ≡ t → FitsAt q
-      go true e = fit q (ltb-true q k e)
-      go false e = let same : q ≡ k = omega (arith, b, ltb-false q k e) in rw same here
 
   -- what the first k places add to the index: the low half of a digit's byte is the level
   unfoldable pub counted : ℕ → ℕ
@@ -49,9 +42,6 @@ module _ (s : List ℕ) (at : ℕ) (frame : List ℕ) where
     pub fit : Fit count
     pub sum : r ≡ counted count % 2 ^ 16
 
-  abbrev pub Weighed : ℕ → ℕ → Type 0
-  Weighed count r = r < 65536 → Fitted count r
-
 -- this many places, rounded up to whole steps of sixteen
 abbrev pub in_steps : ℕ → ℕ
 in_steps width = (width + 15) / 16 * 16
@@ -66,6 +56,7 @@ pub record InFrame (s : List ℕ) (at : ℕ) (frame : List ℕ) (width r : ℕ) 
   pub fitted : Fitted s at frame (in_steps width) r
   pub other : get_or s (at + width) 0 ≡ space_byte → ⊥
 
--- either r is the sum of a row that matches its frame, or greater than any index
-abbrev pub FrameRead : List ℕ → ℕ → List ℕ → ℕ → ℕ → Type 0
-FrameRead s at frame width r = r < 65536 → InFrame s at frame width r
+pub in_frame : (s : List ℕ) (at : ℕ) (frame : List ℕ) (width : ℕ) → 0 < width → at + in_steps width < length s → (get_or s (at + width) 0 ≡ space_byte → ⊥)
+    → (r : Option ℕ) → IfSome r (Fitted s at frame (in_steps width)) → IfSome r (InFrame s at frame width)
+in_frame s at frame width some room other (Some r) fitted = record { some = some; room = room; fitted = fitted; other = other }
+in_frame s at frame width some room other None _ = tt

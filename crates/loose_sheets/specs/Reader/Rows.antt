@@ -1,6 +1,6 @@
 -- The rows of a loose sheet, one after the other.
 -- Assumes nothing.
-use Rattle.std.specs.Prelude.{◌<◌, ◌≤◌, ◌+◌, ◌-◌, ◌^◌, ◌≡◌, ◌∷◌, ◌++◌}
+use Rattle.std.specs.Prelude.{◌<◌, ◌≤◌, ◌+◌, ◌-◌, ◌^◌, ◌≡◌, ◌∷◌, ◌++◌, Result, Ok, Err}
 use Rattle.laws.specs.Prelude.{ℕ, suc, zero, ◌∙◌, sym, ap, refl, true, false, Bool, List, [], map, zero-add}
 use Rattle.laws.specs.Prelude.{sub-zero, arith, eqb, length, get_or, take, drop, set, replicate, get_or-set_same, get_or-set_other, length-take-le, get_or-take}
 use Rattle.laws.specs.Prelude.{ext_get_or, eq-eqb, eqb-true, eqb-false}
@@ -10,12 +10,12 @@ use Rattle.rules.specs.Sheets.Fields.{then}
 use Rattle.rules.specs.Sheets.LooseSheet.{Row, is_of, ink_of, ink_named, loose_rows}
 use Rattle.laws.specs.Lists.Bounds.{Below, at_below}
 use Rattle.laws.specs.Lists.Ranges.{map_range_length, map_range_at}
-use Rattle.fields.specs.Steps.{step_as}
-use Rattle.fields.specs.declared.steps.Step.{Step}
-use Rattle.fields.specs.declared.steps.Step.TheVariants.{On, Back}
+use Rattle.answers.specs.declared.refusal.Refusal.{Refusal}
+use Rattle.fields.specs.Chained.{never_both}
+use Rattle.fields.specs.Steps.{Step, step_as}
+use Rattle.fields.specs.declared.steps.Field.{Field}
 use Rattle.loose_sheets.specs.Reader.Row.{LooseGiven, RowReads, row_as}
 use Rattle.loose_sheets.specs.declared.reader.row.RowRead.{RowRead}
-use Rattle.loose_sheets.specs.declared.reader.row.RowRead.TheVariants.{Taken, Turned}
 
 -- a buffer that holds only zeros
 abbrev pub Blank : List ℕ → Type 0
@@ -35,7 +35,7 @@ pub record InksOf (m n : ℕ) (rows : List Row) (cells : List ℕ) : Type 0 wher
 pub record LooseRowsRead (s : List ℕ) (at m n : ℕ) (cells : List ℕ) (r : Step) : Type 0 where
   pub rows : List Row
   pub reads : step_as (λ _. rows) s r ≡ loose_rows m n (m ^ n) [] (drop at s) at
-  pub held : (value next : ℕ) → r ≡ On value next → InksOf m n rows cells
+  pub held : (found : Field) → r ≡ Ok found → InksOf m n rows cells
 
 -- ---- one more row
 
@@ -106,14 +106,14 @@ rows_start s at m n cells given blank none_given =
     }
 
 module _ (s : List ℕ) (at m n : ℕ) (cells given : List ℕ) (place k : ℕ) (before : LooseInRows s at m n cells given place k) where
-  pub loose_rows_done : m ^ n ≤ k → m ^ n ≤ length cells → LooseRowsRead s at m n cells (On 0 place)
+  pub loose_rows_done : m ^ n ≤ k → m ^ n ≤ length cells → LooseRowsRead s at m n cells (Ok (record { value = 0; next = place }))
   unfolding loose_rows
   loose_rows_done done room =
       let none_left : m ^ n - k ≡ 0 = omega arith in
       record {
         rows = before.rows;
         reads = sym (rw none_left at before.reads);
-        held = λ _ _ _. record {
+        held = λ _ _. record {
           inks = front;
           below = at_below (suc m) (take (m ^ n) cells)
               (λ p h. rw (get_or-take (m ^ n) cells p 0 (within p h)) (before.below p (within p h)));
@@ -132,7 +132,7 @@ module _ (s : List ℕ) (at m n : ℕ) (cells given : List ℕ) (place k : ℕ) 
           ∙ (before.inks p (within p h)
           ∙ sym (map_range_at (ink_named before.rows) 0 (m ^ n) p 0 (within p h) ∙ ap (ink_named before.rows) (zero-add p))))
 
-  module _ (more : k < m ^ n) (r : RowRead) (row : RowReads s place m n given r) where
+  module _ (more : k < m ^ n) (r : Result RowRead Refusal) (row : RowReads s place m n given r) where
     onward : loose_rows m n (m ^ n) [] (drop at s) at
         ≡ then (row_as s r) (λ row. loose_rows m n (m ^ n - (k + 1)) (before.rows ++ (row ∷ [])))
     unfolding loose_rows
@@ -142,23 +142,24 @@ module _ (s : List ℕ) (at m n : ℕ) (cells given : List ℕ) (place k : ℕ) 
         ∙ (ap (λ c. loose_rows m n c before.rows (drop place s) place) counted
         ∙ ap (λ x. then x (λ row. loose_rows m n (m ^ n - (k + 1)) (before.rows ++ (row ∷ [])))) (sym (row.reads before.rows before.marks)))
 
-    pub loose_rows_back : (number back : ℕ) → r ≡ Turned number back → (after : List ℕ) → LooseRowsRead s at m n after (Back number back)
+    pub loose_rows_back : (e : Refusal) → r ≡ Err e → (after : List ℕ) → LooseRowsRead s at m n after (Err e)
     unfolding then
-    loose_rows_back number back e after =
-        record {
-          rows = [];
-          reads = rw (onward, e) refl;
-          held = λ value next q. let z : ◌≡◌ {A = ℕ} 0 1 = cc in absurd (omega arith);
-        }
+    loose_rows_back e is after = record { rows = []; reads = rw (onward, is) refl; held = λ found q. absurd (never_both (Err e) e found refl q) }
 
-    module _ (p ink next : ℕ) (on : r ≡ Taken p ink next) (room : m ^ n ≤ length cells) (marked : m ^ n ≤ length given) where
+    module _ (this : RowRead) (on : r ≡ Ok this) (room : m ^ n ≤ length cells) (marked : m ^ n ≤ length given) where
+      abbrev p : ℕ
+      p = this.index
+
+      abbrev ink : ℕ
+      ink = this.ink
+
       named_row : Row
       named_row = record { index = p; ink = ink }
 
-      pub rows_next : LooseInRows s at m n (set cells p ink) (set given p 1) next (k + 1)
+      pub rows_next : LooseInRows s at m n (set cells p ink) (set given p 1) this.next (k + 1)
       unfolding then named_row
       rows_next =
-          let (low, small, fresh) = row.held p ink next on in
+          let (low, small, fresh) = row.held this on in
           record {
             rows = before.rows ++ (named_row ∷ []);
             most = omega arith;

@@ -23,10 +23,7 @@ pub const WEIGHT: usize = 256;
 
 // Tests whether there is a space at `place`.
 fn is_space(s: &[u8], place: usize) -> bool {
-    if s.len() <= place {
-        return false;
-    }
-    s[place] == SPACE
+    place < s.len() && s[place] == SPACE
 }
 
 // Sets place j of the frame.
@@ -47,6 +44,7 @@ pub fn lay(s: &[u8], at: usize, m: usize, n: usize, frame: &mut [u16; FRAME]) ->
 {
     let mut i: usize = 0;
     let mut j: usize = 0;
+    // A space takes one place and a level two: a `for` over the places would need a flag for the space that follows a level.
     while j < MOST_LAID - 1 {
         if is_space(s, wrapping_add_usize(at, j)) {
             if i == 0 {

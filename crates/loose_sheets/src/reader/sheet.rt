@@ -5,30 +5,20 @@ ghost use Rattle.loose_sheets.specs.Reader.Rows.{Blank};
 ghost use Rattle.loose_sheets.specs.Reader.LooseReading.{LooseReads};
 
 use crate::reader::rows::rows;
-use answers::outcome::Outcome;
+use answers::refusal::Refusal;
 use fields::ends::ended;
-use fields::steps::{Layout, Step};
-use table_reader::sheet::{TableRead, table_head};
+use fields::steps::Layout;
+use nets::forms::Header;
+use table_reader::sheet::table_head;
 
 // Reads a loose table sheet from any bytes. Its inks go to the front of `cells`, in index order; `cells` must hold zeros.
-pub fn read_loose(s: &[u8], cells: &mut [u8]) -> TableRead
+pub fn read_loose(s: &[u8], cells: &mut [u8]) -> Result<Header, Refusal>
     requires { (most_cells ≤ length cells.old) × Blank cells.old }
     ensures { LooseReads s.now cells.new result }
 {
-    let head = table_head(s, Layout::Loose);
+    let head = table_head(s, Layout::Loose)?;
     let header = head.header;
-    let step = head.step;
-    match step {
-        Step::Back { number, place } => TableRead {
-            outcome: Outcome::Refused { number, place },
-            header,
-        },
-        Step::On { value: _, next } => {
-            let last = rows(s, next, header.levels, header.inputs, cells);
-            TableRead {
-                outcome: ended(s, last),
-                header,
-            }
-        }
-    }
+    let last = rows(s, head.next, header.levels, header.inputs, cells);
+    ended(s, last)?;
+    Ok(header)
 }

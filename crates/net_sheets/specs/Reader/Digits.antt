@@ -1,9 +1,9 @@
 -- A gate's digits.
 -- Assumes nothing.
-use Rattle.std.specs.Prelude.{◌<◌, ◌≤◌, ◌+◌, ◌-◌, ◌*◌, ◌≡◌, ◌&&◌}
-use Rattle.laws.specs.Prelude.{ℕ, ◌∙◌, sym, ap, refl, true, false, Bool, and-eq-true_iff, and-false, List, map}
+use Rattle.std.specs.Prelude.{◌<◌, ◌≤◌, ◌+◌, ◌-◌, ◌*◌, ◌≡◌, ◌&&◌, Ok}
+use Rattle.laws.specs.Prelude.{ℕ, ◌∙◌, sym, ap, refl, true, false, Bool, and-eq-true_iff, List, map}
 use Rattle.laws.specs.Prelude.{add-one, arith, eqb, ltb, leb, length, get_or, take, drop, set, length-map, length-drop, get_or-map, length-take-le}
-use Rattle.laws.specs.Prelude.{get_or-take, get_or-drop, paste, paste-suc, eq-eqb, eqb-true, ne_eqb, lt-ltb, le-ltb, le-leb, lt-leb, leb-true}
+use Rattle.laws.specs.Prelude.{get_or-take, get_or-drop, paste, paste-suc, eq-eqb, eqb-true, ne_eqb, leb-true}
 use Rattle.rules.specs.Lists.{all}
 use Rattle.rules.specs.Text.{is_digit, zero_byte, newline_byte}
 use Rattle.rules.specs.Sheets.Fields.{good, field, run}
@@ -12,11 +12,10 @@ use Rattle.laws.specs.Lists.Places.{mem_get_or}
 use Rattle.laws.specs.Lists.Runs.{run_front}
 use Rattle.laws.specs.Lists.Tests.{all_mem}
 use Rattle.fields.specs.Judging.{field_tested}
-use Rattle.fields.specs.Steps.{tested, judged_as, judged_field, judged_field_in, step_as, itself}
+use Rattle.answers.specs.declared.refusal.Kind.TheVariants as kinds
+use Rattle.fields.specs.Steps.{Step, Verdict, tested, judged_as, judged_field, judged_field_in, step_as, itself}
 use Rattle.fields.specs.Taken.{Taken, field_on}
-use Rattle.fields.specs.declared.steps.Step.{Step}
-use Rattle.fields.specs.declared.steps.Step.TheVariants.{On}
-use Rattle.fields.specs.declared.steps.Verdict.{Verdict}
+use Rattle.fields.specs.declared.steps.Field.{Field}
 
 -- the `count` digits at `at` in the sheet, as numbers
 abbrev pub digits_at : List ℕ → ℕ → ℕ → List ℕ
@@ -33,24 +32,9 @@ is_table m w = eqb (length w) (m * m) && all (is_digit m) w
 -- reading a gate's digits at `at`
 pub record DigitsRead (s : List ℕ) (at m : ℕ) (r : Step) : Type 0 where
   pub reads : step_as (λ count. digits_at s at count) s r ≡ field (digits_field m) newline_byte (drop at s) at
-  pub count : (count next : ℕ) → r ≡ On count next → count ≡ m * m
-  pub within : (count next : ℕ) → r ≡ On count next → at + m * m ≤ length s
-  pub digits : (count next : ℕ) → r ≡ On count next → are_digits s at (m * m)
-
--- ---- a digit below m
-
-module _ (m b : ℕ) where
-  pub net_digit_low : b < zero_byte → is_digit m b ≡ false
-  unfolding is_digit
-  net_digit_low h = simp (lt-leb zero_byte b h)
-
-  pub net_digit_high : zero_byte + m ≤ b → is_digit m b ≡ false
-  unfolding is_digit
-  net_digit_high h = simp (le-ltb b (zero_byte + m) h, and-false)
-
-  pub digit_good : zero_byte ≤ b → b < zero_byte + m → is_digit m b ≡ true
-  unfolding is_digit
-  digit_good h k = simp (le-leb zero_byte b h, lt-ltb b (zero_byte + m) k)
+  pub count : (field : Field) → r ≡ Ok field → field.value ≡ m * m
+  pub within : (field : Field) → r ≡ Ok field → at + m * m ≤ length s
+  pub digits : (field : Field) → r ≡ Ok field → are_digits s at (m * m)
 
 -- ---- the field
 
@@ -67,20 +51,23 @@ unfolding is_digit
 digit_least m b e = leb-true zero_byte b ((and-eq-true_iff (leb zero_byte b) (ltb b (zero_byte + m))).0 e).0
 
 pub digits_read : (s : List ℕ) (at m : ℕ) (w : List ℕ) (test : Bool) (v : Verdict) (r : Step) → w ≡ run (drop at s)
-    → test ≡ is_table m w → v ≡ tested test (length w) 6 → step_as itself s r ≡ judged_field v newline_byte s at → DigitsRead s at m r
+    → test ≡ is_table m w → v ≡ tested test (length w) kinds.Digits → step_as itself s r ≡ judged_field v newline_byte s at → DigitsRead s at m r
 unfolding tested judged_field_in digits_field is_table
 digits_read s at m w test v r is table e after =
     record {
-      reads = field_tested (λ count. digits_at s at count) (digits_field m) newline_byte s at w test (length w) 6 v r is e (rw (front, table) refl) after;
-      count = λ count next q. (told count next q).0;
-      within = λ count next q. (told count next q).1;
-      digits = λ count next q. (told count next q).2;
+      reads =
+          field_tested (λ count. digits_at s at count) (digits_field m) newline_byte s at w test (length w) kinds.Digits v r is e
+          (rw (front, table) refl) after;
+      count = λ field q. (told field q).0;
+      within = λ field q. (told field q).1;
+      digits = λ field q. (told field q).2;
     }
   where
     front : take (length w) (drop at s) ≡ w
     front = rw is (run_front (drop at s))
 
-    go : (t : Bool) → t ≡ is_table m w → (count next : ℕ) → judged_as itself (tested t (length w) 6) ≡ good count → Taken (λ _. judged_as itself v) count s at next
+    go : (t : Bool) → t ≡ is_table m w → (count next : ℕ) → judged_as itself (tested t (length w) kinds.Digits) ≡ good count
+        → Taken (λ _. judged_as itself v) count s at next
         → (count ≡ m * m) × (at + m * m ≤ length s) × are_digits s at (m * m)
     go false other count next good_count taken = let z : ◌≡◌ {A = ℕ} 0 1 = cc in absurd (omega arith)
     go true same count next good_count taken =
@@ -94,10 +81,10 @@ digits_read s at m w test v r is table e after =
               (rw (← get_or-drop at s i 0, ← get_or-take (length w) (drop at s) i 0 (rw long h), front) (all_mem (is_digit m) (mem_get_or w i 0 (rw long h)) digits)),
         )
 
-    told : (count next : ℕ) → r ≡ On count next → (count ≡ m * m) × (at + m * m ≤ length s) × are_digits s at (m * m)
-    told count next q =
-        let taken = field_on s r at count next q itself (λ _. judged_as itself v) newline_byte after in
-        go test table count next (ap (judged_as itself) (sym e) ∙ taken.judged) taken
+    told : (field : Field) → r ≡ Ok field → (field.value ≡ m * m) × (at + m * m ≤ length s) × are_digits s at (m * m)
+    told field q =
+        let taken = field_on s r at field q itself (λ _. judged_as itself v) newline_byte after in
+        go test table field.value field.next (ap (judged_as itself) (sym e) ∙ taken.judged) taken
 
 -- ---- copying the digits
 

@@ -1,16 +1,17 @@
 -- Gate lines, one after the other.
 -- Assumes nothing.
-use Rattle.std.specs.Prelude.{◌<◌, ◌≤◌, ◌+◌, ◌*◌, ◌≡◌, ◌∷◌, ◌++◌}
+use Rattle.std.specs.Prelude.{◌<◌, ◌≤◌, ◌+◌, ◌*◌, ◌≡◌, ◌∷◌, ◌++◌, Result, Ok, Err}
 use Rattle.laws.specs.Prelude.{ℕ, ◌∙◌, sym, ap, refl, Bool, List, [], arith, length, drop, length-set, paste}
 use Rattle.laws.specs.Prelude.{length-paste}
 use Rattle.rules.specs.Text.{space, newline, newline_byte}
 use Rattle.rules.specs.Sheets.Fields.{Read, read, turned_back, Reader, then, ◌>>=◌, give, field}
 use Rattle.rules.specs.Sheets.Sheets as sheets
 use Rattle.rules.specs.Sheets.Sheets.{reference_field, digits_field, used_by, gate_line}
-use Rattle.fields.specs.Steps.{step_as, itself}
-use Rattle.fields.specs.declared.steps.Step.{Step}
-use Rattle.fields.specs.declared.steps.Step.TheVariants.{On}
-use Rattle.fields.specs.declared.steps.Step.TheVariants as steps
+use Rattle.answers.specs.Kinds.{number_of}
+use Rattle.answers.specs.declared.refusal.Refusal.{Refusal}
+use Rattle.fields.specs.Chained.{never_both}
+use Rattle.fields.specs.Steps.{Step, read_as, step_as, itself}
+use Rattle.fields.specs.declared.steps.Field.{Field}
 use Rattle.nets.specs.Forms.{gates_of}
 use Rattle.nets.specs.Growing.{grown, gates_grown}
 use Rattle.nets.specs.declared.forms.Net.{Net}
@@ -19,7 +20,6 @@ use Rattle.net_sheets.specs.Reader.Keys.{Keyed}
 use Rattle.net_sheets.specs.Reader.References.{Marked, ReferenceRead}
 use Rattle.nets.specs.Room.{most_gates, most_wires, most_digits}
 use Rattle.net_sheets.specs.declared.reader.gates.Line.{Line}
-use Rattle.net_sheets.specs.declared.reader.gates.Line.TheVariants.{Gate, Back}
 
 -- a net with room for the largest size
 pub record NetForm (net : Net) : Type 0 where
@@ -60,9 +60,9 @@ form_grown net left right v digits form few room long pasted =
 -- ---- a gate line, field by field
 
 -- a line in the sheet s with m levels
-abbrev pub line_as : ℕ → List ℕ → Line → Read sheets.Gate
-line_as m s (Gate left right digits next) = read (record { left = left; right = right; digits = digits_at s digits (m * m) }) (drop next s) next
-line_as m s (Back number place) = turned_back number place
+abbrev pub line_as : ℕ → List ℕ → Result Line Refusal → Read sheets.Gate
+line_as m s r =
+    read_as (λ line. record { left = line.left; right = line.right; digits = digits_at s line.digits (m * m) }) (λ line. line.next) s r
 
 -- document 01's gate line from its table field on, and from its right field on
 unfoldable pub digits_only : ℕ → ℕ → ℕ → Reader sheets.Gate
@@ -77,9 +77,9 @@ pub record LineDigits (s : List ℕ) (m place : ℕ) : Type 0 where
   pub digits : are_digits s place (m * m)
 
 -- reading the rest of a gate line from its table field on
-pub record DigitsLine (s : List ℕ) (at m left right : ℕ) (r : Line) : Type 0 where
+pub record DigitsLine (s : List ℕ) (at m left right : ℕ) (r : Result Line Refusal) : Type 0 where
   pub reads : line_as m s r ≡ digits_only m left right (drop at s) at
-  pub held : (a b digits next : ℕ) → r ≡ Gate a b digits next → (a ≡ left) × (b ≡ right) × LineDigits s m digits
+  pub held : (line : Line) → r ≡ Ok line → (line.left ≡ left) × (line.right ≡ right) × LineDigits s m line.digits
 
 -- a line that was read after these gates: its references are small, and they are marked too
 pub record LineHeld (s : List ℕ) (m : ℕ) (gates : List sheets.Gate) (after : List Bool) (a b place : ℕ) : Type 0 where
@@ -88,58 +88,56 @@ pub record LineHeld (s : List ℕ) (m : ℕ) (gates : List sheets.Gate) (after :
   pub digits : LineDigits s m place
   pub marked : Marked after (b ∷ a ∷ used_by gates)
 
-pub record LineRead (s : List ℕ) (at m : ℕ) (reader : Reader sheets.Gate) (gates : List sheets.Gate) (after : List Bool) (r : Line) : Type 0 where
+pub record LineRead (s : List ℕ) (at m : ℕ) (reader : Reader sheets.Gate) (gates : List sheets.Gate) (after : List Bool)
+    (r : Result Line Refusal) : Type 0 where
   pub reads : line_as m s r ≡ reader (drop at s) at
-  pub held : (left right digits next : ℕ) → r ≡ Gate left right digits next → LineHeld s m gates after left right digits
+  pub held : (line : Line) → r ≡ Ok line → LineHeld s m gates after line.left line.right line.digits
 
 -- from the right field on
-abbrev pub RightLine : List ℕ → ℕ → ℕ → List ℕ → List ℕ → ℕ → ℕ → List Bool → List Bool → Line → Type 0
+abbrev pub RightLine : List ℕ → ℕ → ℕ → List ℕ → List ℕ → ℕ → ℕ → List Bool → List Bool → Result Line Refusal → Type 0
 RightLine s at m keys lens count left used after r =
     (names : List (List ℕ)) → Keyed names keys lens count → (gates : List sheets.Gate) → length names + length gates ≡ count → Marked used (left ∷ used_by gates)
     → LineRead s at m (right_only m names gates left) gates after r
 
 -- the whole line
-abbrev pub WholeLine : List ℕ → ℕ → ℕ → List ℕ → List ℕ → ℕ → List Bool → List Bool → Line → Type 0
+abbrev pub WholeLine : List ℕ → ℕ → ℕ → List ℕ → List ℕ → ℕ → List Bool → List Bool → Result Line Refusal → Type 0
 WholeLine s at m keys lens count used after r =
     (names : List (List ℕ)) → Keyed names keys lens count → (gates : List sheets.Gate) → length names + length gates ≡ count → Marked used (used_by gates)
     → LineRead s at m (gate_line m names gates) gates after r
 
--- a refused line is no gate
-never_gate : {A : Type 0} (number place left right digits next : ℕ) → Back number place ≡ Gate left right digits next → A
-never_gate number place left right digits next e = let z : ◌≡◌ {A = ℕ} 0 1 = cc in absurd (omega arith)
-
 -- one field, then the rest
 module _ {A B : Type 0} (f : ℕ → A) (one : Reader A) (rest : A → Reader B) (s : List ℕ) (at : ℕ) (step : Step)
     (reads : step_as f s step ≡ one (drop at s) at) where
-  field_back : (number place : ℕ) → step ≡ steps.Back number place → turned_back number place ≡ (one >>= rest) (drop at s) at
+  field_back : (e : Refusal) → step ≡ Err e → turned_back (number_of e.kind) e.place ≡ (one >>= rest) (drop at s) at
   unfolding then
-  field_back number place e = rw (← reads, e) refl
+  field_back e is = rw (← reads, is) refl
 
-  field_next : (value next : ℕ) (x : Read B) → step ≡ On value next → x ≡ rest (f value) (drop next s) next → x ≡ (one >>= rest) (drop at s) at
+  field_next : (field : Field) (x : Read B) → step ≡ Ok field → x ≡ rest (f field.value) (drop field.next s) field.next → x ≡ (one >>= rest) (drop at s) at
   unfolding then
-  field_next value next x e onward = rw (← reads, e) onward
+  field_next field x is onward = rw (← reads, is) onward
 
 module _ (s : List ℕ) (at m left right : ℕ) (step : Step) (digits : DigitsRead s at m step) where
-  pub digits_back : (number place : ℕ) → step ≡ steps.Back number place → DigitsLine s at m left right (Back number place)
+  pub digits_back : (e : Refusal) → step ≡ Err e → DigitsLine s at m left right (Err e)
   unfolding digits_only newline
-  digits_back number place e =
+  digits_back e is =
       record {
-        reads = field_back (λ count. digits_at s at count) (field (digits_field m) newline_byte) _ s at step digits.reads number place e;
-        held = λ a b d next. never_gate number place a b d next;
+        reads = field_back (λ count. digits_at s at count) (field (digits_field m) newline_byte) _ s at step digits.reads e is;
+        held = λ line q. absurd (never_both (Err e) e line refl q);
       }
 
-  pub digits_on : (count next : ℕ) → step ≡ On count next → DigitsLine s at m left right (Gate left right at next)
+  pub digits_on : (field : Field) → step ≡ Ok field
+      → DigitsLine s at m left right (Ok (record { left = left; right = right; digits = at; next = field.next }))
   unfolding digits_only newline
-  digits_on count next e =
+  digits_on table is =
       record {
         reads =
-            field_next (λ count. digits_at s at count) (field (digits_field m) newline_byte) _ s at step digits.reads count next _ e
-            (ap (λ k. read (record { left = left; right = right; digits = digits_at s at k }) (drop next s) next) (sym (digits.count count next e)));
-        held = λ a b d end q. (
+            field_next (λ count. digits_at s at count) (field (digits_field m) newline_byte) _ s at step digits.reads table _ is
+            (ap (λ k. read (record { left = left; right = right; digits = digits_at s at k }) (drop table.next s) table.next) (sym (digits.count table is)));
+        held = λ line q. (
           (cc),
           (cc),
-          let here : at ≡ d = cc in
-              rw (← here) (record { within = digits.within count next e; digits = digits.digits count next e }),
+          let here : at ≡ line.digits = cc in
+              rw (← here) (record { within = digits.within table is; digits = digits.digits table is }),
         );
       }
 
@@ -154,50 +152,50 @@ module _ (s : List ℕ) (at m : ℕ) (keys lens : List ℕ) (count : ℕ) (used 
     unfolding one space
     one_reads = reference.reads names (length gates) list all keyed marked
 
-    reference_back : (last : List Bool) (number place : ℕ) → step ≡ steps.Back number place → LineRead s at m (one >>= rest) gates last (Back number place)
-    reference_back last number place e =
+    reference_back : (last : List Bool) (e : Refusal) → step ≡ Err e → LineRead s at m (one >>= rest) gates last (Err e)
+    reference_back last e is =
         record {
-          reads = field_back itself one rest s at step one_reads number place e;
-          held = λ a b d next. never_gate number place a b d next;
+          reads = field_back itself one rest s at step one_reads e is;
+          held = λ line q. absurd (never_both (Err e) e line refl q);
         }
 
-    reference_on : (value next : ℕ) (r : Line) → step ≡ On value next → line_as m s r ≡ rest value (drop next s) next
+    reference_on : (field : Field) (r : Result Line Refusal) → step ≡ Ok field → line_as m s r ≡ rest field.value (drop field.next s) field.next
         → line_as m s r ≡ (one >>= rest) (drop at s) at
-    reference_on value next r e onward = field_next itself one rest s at step one_reads value next (line_as m s r) e onward
+    reference_on field r is onward = field_next itself one rest s at step one_reads field (line_as m s r) is onward
 
-  pub right_back : (left number place : ℕ) → step ≡ steps.Back number place → RightLine s at m keys lens count left used after (Back number place)
+  pub right_back : (left : ℕ) (e : Refusal) → step ≡ Err e → RightLine s at m keys lens count left used after (Err e)
   unfolding right_only one
-  right_back left number place e names keyed gates all marked =
-      reference_back names keyed gates all (left ∷ used_by gates) marked (digits_only m left) after number place e
+  right_back left e is names keyed gates all marked =
+      reference_back names keyed gates all (left ∷ used_by gates) marked (digits_only m left) after e is
 
-  pub right_on : (left value next : ℕ) (r : Line) → left < most_wires → step ≡ On value next → DigitsLine s next m left value r
+  pub right_on : (left : ℕ) (field : Field) (r : Result Line Refusal) → left < most_wires → step ≡ Ok field → DigitsLine s field.next m left field.value r
       → RightLine s at m keys lens count left used after r
   unfolding right_only one
-  right_on left value next r small e line names keyed gates all marked =
+  right_on left field r small is rest names keyed gates all marked =
       record {
-        reads = reference_on names keyed gates all (left ∷ used_by gates) marked (digits_only m left) value next r e line.reads;
-        held = λ a b d end q.
-            let (same_left, same_right, digits) = line.held a b d end q in
+        reads = reference_on names keyed gates all (left ∷ used_by gates) marked (digits_only m left) field r is rest.reads;
+        held = λ line q.
+            let (same_left, same_right, digits) = rest.held line q in
             rw (same_left, same_right)
             (record {
               left = small;
-              right = reference.below value next e;
+              right = reference.below field is;
               digits = digits;
-              marked = reference.marks (left ∷ used_by gates) value next marked e;
+              marked = reference.marks (left ∷ used_by gates) field marked is;
             });
       }
 
-  pub left_back : (number place : ℕ) → step ≡ steps.Back number place → WholeLine s at m keys lens count used after (Back number place)
+  pub left_back : (e : Refusal) → step ≡ Err e → WholeLine s at m keys lens count used after (Err e)
   unfolding gate_line right_only digits_only one
-  left_back number place e names keyed gates all marked =
-      reference_back names keyed gates all (used_by gates) marked (right_only m names gates) after number place e
+  left_back e is names keyed gates all marked =
+      reference_back names keyed gates all (used_by gates) marked (right_only m names gates) after e is
 
-  pub left_on : (last : List Bool) (value next : ℕ) (r : Line) → step ≡ On value next → RightLine s next m keys lens count value after last r
-      → WholeLine s at m keys lens count used last r
+  pub left_on : (last : List Bool) (field : Field) (r : Result Line Refusal) → step ≡ Ok field
+      → RightLine s field.next m keys lens count field.value after last r → WholeLine s at m keys lens count used last r
   unfolding gate_line right_only digits_only one
-  left_on last value next r e line names keyed gates all marked =
-      let rest = line names keyed gates all (reference.marks (used_by gates) value next marked e) in
+  left_on last field r is line names keyed gates all marked =
+      let rest = line names keyed gates all (reference.marks (used_by gates) field marked is) in
       record {
-        reads = reference_on names keyed gates all (used_by gates) marked (right_only m names gates) value next r e rest.reads;
+        reads = reference_on names keyed gates all (used_by gates) marked (right_only m names gates) field r is rest.reads;
         held = rest.held;
       }

@@ -1,10 +1,10 @@
 -- References, by name and by number.
 -- Assumes nothing.
-use Rattle.std.specs.Prelude.{◌<◌, ◌≤◌, ◌+◌, ◌-◌, ◌≡◌, ◌||◌, ◌∷◌, ◌++◌}
+use Rattle.std.specs.Prelude.{◌<◌, ◌≤◌, ◌+◌, ◌-◌, ◌≡◌, ◌||◌, ◌∷◌, ◌++◌, Option, Some, None, Ok}
 use Rattle.laws.specs.Prelude.{ℕ, suc, zero, ◌∙◌, sym, ap, refl, true, false, Bool, not, List, [], map, sub-zero}
 use Rattle.laws.specs.Prelude.{arith, eqb, length, get_or, drop, set, length-set, replicate, get_or-replicate, get_or-set_same, get_or-set_other, eq-eqb, eqb-true}
 use Rattle.laws.specs.Prelude.{ne_eqb, eqb-false}
-use Rattle.std.proofs.Math.Option.{Option, none}
+use Rattle.std.proofs.Math.Option as math
 use Rattle.rules.specs.Limits.{most_name_bytes}
 use Rattle.rules.specs.Lists.{range, all, any, find, same}
 use Rattle.rules.specs.Text.{space_byte}
@@ -14,13 +14,9 @@ use Rattle.laws.specs.Lists.Ranges.{range_next, range_none}
 use Rattle.laws.specs.Lists.Same.{same_true}
 use Rattle.laws.specs.Lists.Tests.{any_cons}
 use Rattle.fields.specs.Judging.{field_judged}
-use Rattle.fields.specs.Steps.{judged_as, judged_field, judged_field_in, step_as, itself, option_of}
+use Rattle.fields.specs.Steps.{Step, Verdict, judged_as, judged_field, judged_field_in, step_as, itself, option_of}
 use Rattle.fields.specs.Taken.{field_on}
-use Rattle.fields.specs.declared.steps.Step.{Step}
-use Rattle.fields.specs.declared.steps.Step.TheVariants.{On}
-use Rattle.fields.specs.declared.steps.Verdict.{Verdict}
-use Rattle.fields.specs.declared.steps.Found.{Found}
-use Rattle.fields.specs.declared.steps.Found.TheVariants.{At, Nowhere}
+use Rattle.fields.specs.declared.steps.Field.{Field}
 use Rattle.rules.specs.Sheets.Sheets.{Gate, reference_text, reference_of, reference_field, used_by, earlier_used}
 use Rattle.nets.specs.Forms.{gate_of}
 use Rattle.nets.specs.Room.{most_wires}
@@ -30,19 +26,19 @@ use Rattle.net_sheets.specs.Reader.Keys.{Keyed}
 -- ---- what a field refers to
 
 -- what w refers to, of the first `count` inputs and gates
-pub record Referred (keys lens : List ℕ) (count : ℕ) (w : List ℕ) (r : Found) : Type 0 where
+pub record Referred (keys lens : List ℕ) (count : ℕ) (w : List ℕ) (r : Option ℕ) : Type 0 where
   pub finds : (names : List (List ℕ)) → Keyed names keys lens count → option_of r ≡ find (λ k. same w (reference_text names k)) (range 0 count)
-  pub below : (k : ℕ) → r ≡ At k → k < count
+  pub below : (k : ℕ) → r ≡ Some k → k < count
 
 -- a place that was found is below `count`, and nowhere is no place
-pub at_below : (count r k : ℕ) → r < count → At r ≡ At k → k < count
+pub at_below : (count r k : ℕ) → r < count → Some r ≡ Some k → k < count
 at_below count r k below e = let same_place : r ≡ k = cc in omega arith
 
-pub nowhere_below : (count k : ℕ) → Nowhere ≡ At k → k < count
+pub nowhere_below : (count k : ℕ) → ◌≡◌ {A = Option ℕ} None (Some k) → k < count
 nowhere_below count k e = absurd (let z : ◌≡◌ {A = ℕ} 0 1 = cc in omega arith)
 
 -- a long field refers to nothing
-pub long_refers : (keys lens : List ℕ) (count : ℕ) (w : List ℕ) → most_name_bytes < length w → Referred keys lens count w Nowhere
+pub long_refers : (keys lens : List ℕ) (count : ℕ) (w : List ℕ) → most_name_bytes < length w → Referred keys lens count w None
 long_refers keys lens count w long =
     record {
       finds = λ names keyed.
@@ -51,7 +47,7 @@ long_refers keys lens count w long =
       below = nowhere_below count;
     }
   where
-    nothing_found : {P : ℕ → Type 0} {R : ℕ → ℕ → Type 0} {o : Option ℕ} → First P R o → ((k : ℕ) → P k → ⊥) → none ≡ o
+    nothing_found : {P : ℕ → Type 0} {R : ℕ → ℕ → Type 0} {o : math.Option ℕ} → First P R o → ((k : ℕ) → P k → ⊥) → math.none ≡ o
     nothing_found (found g p least) never = absurd (never g p)
     nothing_found (missing empty) never = refl
 
@@ -177,12 +173,12 @@ pub record ReferenceJudged (keys lens : List ℕ) (count : ℕ) (used : List Boo
 never_good : {A : Type 0} (number value : ℕ) → ◌≡◌ {A = Judged ℕ} (bad number) (good value) → A
 never_good number value e = let z : ◌≡◌ {A = ℕ} 0 1 = cc in absurd (omega arith)
 
-module _ (keys lens : List ℕ) (count : ℕ) (w : List ℕ) (found : Found) (refers : Referred keys lens count w found) where
+module _ (keys lens : List ℕ) (count : ℕ) (w : List ℕ) (found : Option ℕ) (refers : Referred keys lens count w found) where
   is_of_lem : (names : List (List ℕ)) (earlier : ℕ) → length names + earlier ≡ count → Keyed names keys lens count → reference_of names earlier w ≡ option_of found
   unfolding reference_of
   is_of_lem names earlier all keyed = rw all (sym (refers.finds names keyed))
 
-  pub judged_none : (used : List Bool) → found ≡ Nowhere → ReferenceJudged keys lens count used w used (bad 7)
+  pub judged_none : (used : List Bool) → found ≡ None → ReferenceJudged keys lens count used w used (bad 7)
   unfolding reference_field
   judged_none used q =
       record {
@@ -191,7 +187,7 @@ module _ (keys lens : List ℕ) (count : ℕ) (w : List ℕ) (found : Found) (re
         below = λ value. never_good 7 value;
       }
 
-  module _ (few : count ≤ most_wires) (r : ℕ) (q : found ≡ At r) where
+  module _ (few : count ≤ most_wires) (r : ℕ) (q : found ≡ Some r) where
     pub refers_below : r < most_wires
     refers_below = omega (arith, refers.below r q)
 
@@ -222,8 +218,8 @@ module _ (keys lens : List ℕ) (count : ℕ) (w : List ℕ) (found : Found) (re
 pub record ReferenceRead (s : List ℕ) (at : ℕ) (keys lens : List ℕ) (count : ℕ) (used after : List Bool) (r : Step) : Type 0 where
   pub reads : (names : List (List ℕ)) (earlier : ℕ) (list : List ℕ) → length names + earlier ≡ count → Keyed names keys lens count → Marked used list
       → step_as itself s r ≡ field (reference_field names earlier list) space_byte (drop at s) at
-  pub marks : (list : List ℕ) (value next : ℕ) → Marked used list → r ≡ On value next → Marked after (value ∷ list)
-  pub below : (value next : ℕ) → r ≡ On value next → value < most_wires
+  pub marks : (list : List ℕ) (field : Field) → Marked used list → r ≡ Ok field → Marked after (field.value ∷ list)
+  pub below : (field : Field) → r ≡ Ok field → field.value < most_wires
 
 pub reference_read : (s : List ℕ) (at : ℕ) (keys lens : List ℕ) (count : ℕ) (used after : List Bool) (w : List ℕ) (v : Verdict) (r : Step)
     → w ≡ run (drop at s) → ReferenceJudged keys lens count used w after (judged_as itself v) → step_as itself s r ≡ judged_field v space_byte s at
@@ -233,9 +229,9 @@ reference_read s at keys lens count used after w v r is judged reads =
     record {
       reads = λ names earlier list all keyed marked.
           field_judged itself (reference_field names earlier list) space_byte s at w v r is (judged.judges names earlier list all keyed marked) reads;
-      marks = λ list value next marked e. judged.marks list value marked (told value next e);
-      below = λ value next e. judged.below value (told value next e);
+      marks = λ list field marked e. judged.marks list field.value marked (told field e);
+      below = λ field e. judged.below field.value (told field e);
     }
   where
-    told : (value next : ℕ) → r ≡ On value next → judged_as itself v ≡ good value
-    told value next e = (field_on s r at value next e itself (λ _. judged_as itself v) space_byte reads).judged
+    told : (field : Field) → r ≡ Ok field → judged_as itself v ≡ good field.value
+    told field e = (field_on s r at field e itself (λ _. judged_as itself v) space_byte reads).judged

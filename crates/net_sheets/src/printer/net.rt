@@ -30,14 +30,10 @@ fn print_digits(digits: &[u8], out: &mut [u8], at: usize) -> usize
     requires { PutRoom out.old at (map digit_byte digits.now) × ((k : ℕ) → k < length digits.now → get_or digits.now k 0 < 10) }
     ensures { Put out.old at (map digit_byte digits.now) out.new result }
 {
-    let mut i: usize = 0;
-    let mut p: usize = at;
-    while i < digits.len() {
-        out[p] = b'0' + digits[i];
-        i += 1;
-        p += 1;
+    for (i, digit) in digits.iter().enumerate() {
+        out[at + i] = b'0' + *digit;
     }
-    p
+    at + digits.len()
 }
 
 // Writes the line of a gate with these references and digits.
@@ -66,9 +62,8 @@ fn print_gates(s: &[u8], h: Header, net: Net, out: &mut [u8], at: usize) -> usiz
     ensures { Put out.old at (printed_gates s.now h net) out.new result }
 {
     let digits = net.digits;
-    let mut k: usize = 0;
-    let mut p: usize = at;
-    while k < net.gates {
+    let mut p = at;
+    for k in 0..net.gates {
         let size = net.levels * net.levels;
         let from = k * size;
         let end = from + size;
@@ -81,7 +76,6 @@ fn print_gates(s: &[u8], h: Header, net: Net, out: &mut [u8], at: usize) -> usiz
             out,
             p,
         );
-        k += 1;
     }
     p
 }

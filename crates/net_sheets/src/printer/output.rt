@@ -10,12 +10,12 @@ ghost use Rattle.answers.specs.AnswerMaps.{made_of};
 
 use crate::printer::net;
 use crate::text::put::copy;
-use answers::answer::Answer;
+use answers::refusal::{Kind, Refusal};
 use nets::forms::{Header, Net};
 use radix::limits;
 
-// Writes the sheet and returns its length, or refuses with 15.
-pub fn write_sheet(s: &[u8], header: Header, gates: Net, out: &mut [u8]) -> Answer
+// Writes the sheet and returns its length, or refuses because the output is too short.
+pub fn write_sheet(s: &[u8], header: Header, gates: Net, out: &mut [u8]) -> Result<usize, Refusal>
     requires { NamesInside s.now header × GatesInside gates × (length (printed_net (net_in s.now header gates)) ≤ most_settled) }
     ensures { (cells marks : List ℕ) → made_of result cells marks out.new
         ≡ written_sheet (printed_net (net_in s.now header gates)) cells marks out.old }
@@ -23,12 +23,12 @@ pub fn write_sheet(s: &[u8], header: Header, gates: Net, out: &mut [u8]) -> Answ
     let mut printed = [0u8; limits::MOST_SETTLED];
     let length = net::print_net(s, header, gates, &mut printed);
     if out.len() < length {
-        return Answer::Refused {
-            number: 15,
+        return Err(Refusal {
+            kind: Kind::OutputShort,
             place: length,
-        };
+        });
     }
     let text = &printed[0..length];
     copy(text, out, 0);
-    Answer::Accepted(length)
+    Ok(length)
 }

@@ -5,9 +5,10 @@ ghost use Rattle.std.proofs.Math.Seq.{paste};
 ghost use Rattle.rules.specs.Limits.{most_levels};
 ghost use Rattle.net_sheets.specs.Reader.Digits.{DigitsRead, is_table, are_digits, digits_at};
 
+use answers::refusal::{Kind, Refusal};
 use fields::ends::{after_field, judged};
 use fields::runs::{NEWLINE, ZERO, field_at};
-use fields::steps::Step;
+use fields::steps::Field;
 use radix::limits::MOST_DIGITS;
 
 // Tests whether w is m·m digits below m.
@@ -18,27 +19,17 @@ pub fn is_table(w: &[u8], m: usize) -> bool
     if w.len() != m * m {
         return false;
     }
-    let mut i: usize = 0;
-    while i < w.len() {
-        let b = w[i] as usize;
-        if b < ZERO {
-            return false;
-        }
-        if ZERO + m <= b {
-            return false;
-        }
-        i += 1;
-    }
-    true
+    let end = ZERO + m;
+    w.iter().all(|b| ZERO <= *b as usize && (*b as usize) < end)
 }
 
 // Reads the table field of a gate; an accepting step returns its length.
-pub fn digits_field(s: &[u8], at: usize, m: usize) -> Step
+pub fn digits_field(s: &[u8], at: usize, m: usize) -> Result<Field, Refusal>
     requires { m ≤ most_levels }
     ensures { DigitsRead s.now at m result }
 {
     let w = field_at(s, at);
-    let verdict = judged(is_table(w, m), w.len(), 6);
+    let verdict = judged(is_table(w, m), w.len(), Kind::Digits);
     after_field(s, at, w, verdict, NEWLINE)
 }
 
@@ -47,9 +38,7 @@ pub fn copy_digits(s: &[u8], at: usize, count: usize, digits: &mut [u8; MOST_DIG
     requires { (at + count ≤ length s.now) × (from + count ≤ most_digits) × (length digits.old ≡ most_digits) × are_digits s.now at count }
     ensures { digits.new ≡ paste digits.old from (digits_at s.now at count) count }
 {
-    let mut i: usize = 0;
-    while i < count {
+    for i in 0..count {
         digits[from + i] = s[at + i] - b'0';
-        i += 1;
     }
 }

@@ -9,46 +9,44 @@ ghost use Rattle.net_sheets.specs.Reader.GateLines.{GatesAll};
 use crate::reader::digits::{copy_digits, digits_field};
 use crate::reader::keys::{key_names, key_number};
 use crate::reader::references::reference_field;
-use fields::steps::Step;
+use answers::refusal::Refusal;
 use nets::forms::{Header, MOST_WIRES, Net, no_gates};
 
-// A gate line: the gate's references, where its digits begin and where the next line begins, or a refusal.
-#[derive(Drop)]
-pub enum Line {
-    Gate {
-        left: usize,
-        right: usize,
-        digits: usize,
-        next: usize,
-    },
-    Back {
-        number: usize,
-        place: usize,
-    },
+// A gate line: the gate's references, where its digits begin, and where the next line begins.
+#[derive(Clone, Copy, PartialEq, Eq, Debug)]
+pub struct Line {
+    pub left: usize,
+    pub right: usize,
+    pub digits: usize,
+    pub next: usize,
 }
 
-// The result of reading gate lines. If the step is `On`, the net has the gates that were read, and `used` marks their references.
-#[derive(Drop)]
+// The gates that were read, with their references marked in `used`, and where reading continues.
+#[derive(Clone, Copy)]
 pub struct GatesRead {
-    pub step: Step,
     pub net: Net,
     pub used: [bool; MOST_WIRES],
+    pub next: usize,
 }
 
 // Reads a gate line from its table field on.
-pub fn from_digits(s: &[u8], at: usize, levels: usize, left: usize, right: usize) -> Line
+pub fn from_digits(
+    s: &[u8],
+    at: usize,
+    levels: usize,
+    left: usize,
+    right: usize,
+) -> Result<Line, Refusal>
     requires { levels ≤ most_levels }
     ensures { DigitsLine s.now at levels left right result }
 {
-    match digits_field(s, at, levels) {
-        Step::Back { number, place } => Line::Back { number, place },
-        Step::On { value: _, next } => Line::Gate {
-            left,
-            right,
-            digits: at,
-            next,
-        },
-    }
+    let table = digits_field(s, at, levels)?;
+    Ok(Line {
+        left,
+        right,
+        digits: at,
+        next: table.next,
+    })
 }
 
 // Reads a gate line from its right field on.
@@ -61,14 +59,12 @@ pub fn from_right(
     count: usize,
     left: usize,
     used: &mut [bool; MOST_WIRES],
-) -> Line
+) -> Result<Line, Refusal>
     requires { (levels ≤ most_levels) × (count ≤ most_wires) × (left < most_wires) }
     ensures { RightLine s.now at levels keys.now lens.now count left used.old used.new result }
 {
-    match reference_field(s, at, keys, lens, count, used) {
-        Step::Back { number, place } => Line::Back { number, place },
-        Step::On { value, next } => from_digits(s, next, levels, left, value),
-    }
+    let right = reference_field(s, at, keys, lens, count, used)?;
+    from_digits(s, right.next, levels, left, right.value)
 }
 
 // Reads one gate line after the first `count` inputs and gates, and marks its references as used.
@@ -80,18 +76,16 @@ pub fn gate_line(
     lens: &[u8; MOST_WIRES],
     count: usize,
     used: &mut [bool; MOST_WIRES],
-) -> Line
+) -> Result<Line, Refusal>
     requires { (levels ≤ most_levels) × (count ≤ most_wires) }
     ensures { WholeLine s.now at levels keys.now lens.now count used.old used.new result }
 {
-    match reference_field(s, at, keys, lens, count, used) {
-        Step::Back { number, place } => Line::Back { number, place },
-        Step::On { value, next } => from_right(s, next, levels, keys, lens, count, value, used),
-    }
+    let left = reference_field(s, at, keys, lens, count, used)?;
+    from_right(s, left.next, levels, keys, lens, count, left.value, used)
 }
 
 // Reads the gate lines of a sheet with this header: all of them, or up to the sheet's end after one.
-pub fn gate_lines(s: &[u8], at: usize, header: Header) -> GatesRead
+pub fn gate_lines(s: &[u8], at: usize, header: Header) -> Result<GatesRead, Refusal>
     requires { HeaderHeld s.now header }
     ensures { GatesAll s.now at header result }
 {
@@ -101,54 +95,26 @@ pub fn gate_lines(s: &[u8], at: usize, header: Header) -> GatesRead
     key_names(s, header, &mut keys, &mut lens);
     let mut net = no_gates(header.levels, header.inputs);
     let mut used = [false; MOST_WIRES];
-    let mut place = at;
-    while net.gates + 1 < header.inputs {
-        let gates = net.gates;
+    let mut next = at;
+    for gates in 0..header.inputs - 1 {
         let line = gate_line(
             s,
-            place,
+            next,
             header.levels,
             &keys,
             &lens,
             header.inputs + gates,
             &mut used,
-        );
-        match line {
-            Line::Back { number, place } => {
-                return GatesRead {
-                    step: Step::Back { number, place },
-                    net,
-                    used,
-                };
-            }
-            Line::Gate {
-                left,
-                right,
-                digits,
-                next,
-            } => {
-                copy_digits(s, digits, size, &mut net.digits, gates * size);
-                net.left[gates] = left as u8;
-                net.right[gates] = right as u8;
-                net.gates = gates + 1;
-                if s.len() <= next {
-                    return GatesRead {
-                        step: Step::On { value: 0, next },
-                        net,
-                        used,
-                    };
-                }
-                key_number(header.inputs, gates, &mut keys, &mut lens);
-                place = next;
-            }
+        )?;
+        copy_digits(s, line.digits, size, &mut net.digits, gates * size);
+        net.left[gates] = line.left as u8;
+        net.right[gates] = line.right as u8;
+        net.gates = gates + 1;
+        next = line.next;
+        if s.len() <= next {
+            break;
         }
+        key_number(header.inputs, gates, &mut keys, &mut lens);
     }
-    GatesRead {
-        step: Step::On {
-            value: 0,
-            next: place,
-        },
-        net,
-        used,
-    }
+    Ok(GatesRead { net, used, next })
 }

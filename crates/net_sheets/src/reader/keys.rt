@@ -19,11 +19,9 @@ pub fn key_names(
     requires { HeaderHeld s.now header × Keyed (names_in s.now header) keys.old lens.old 0 }
     ensures { Keyed (names_in s.now header) keys.new lens.new header.inputs }
 {
-    let mut i: usize = 0;
-    while i < header.inputs {
+    for i in 0..header.inputs {
         keys[i] = key_of(name_of(s, header, i));
         lens[i] = header.lens[i];
-        i += 1;
     }
 }
 

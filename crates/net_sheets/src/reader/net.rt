@@ -5,94 +5,54 @@ ghost use Rattle.net_sheets.specs.Reader.NetReading.{NetReads, NetRest, from_hea
 
 use crate::reader::gates::gate_lines;
 use crate::reader::references::earlier_used;
-use answers::outcome::Outcome;
+use answers::refusal::{Kind, Refusal};
 use fields::header::first_lines::header_lines;
 use fields::runs::NEWLINE;
-use fields::steps::Step;
 use fields::words::three_words;
-use nets::forms::{Header, Net, no_gates};
+use nets::forms::{Header, Net};
 
-// The result of reading a net sheet. The header and the net are set if it is accepted.
-#[derive(Drop)]
+// A net sheet that was read.
+#[derive(Clone, Copy)]
 pub struct NetRead {
-    pub outcome: Outcome,
     pub header: Header,
     pub net: Net,
 }
 
 // Reads a net sheet from its first gate line on.
-pub fn from_gates(s: &[u8], at: usize, header: Header) -> NetRead
+pub fn from_gates(s: &[u8], at: usize, header: Header) -> Result<NetRead, Refusal>
     requires { HeaderHeld s.now header }
     ensures { NetRest s.now at (from_gates (header_of s.now header)) result }
 {
-    let read = gate_lines(s, at, header);
-    let step = read.step;
+    let read = gate_lines(s, at, header)?;
     let net = read.net;
-    let used = read.used;
-    match step {
-        Step::Back { number, place } => NetRead {
-            outcome: Outcome::Refused { number, place },
-            header,
-            net,
-        },
-        Step::On { value: _, next } => {
-            if next < s.len() {
-                return NetRead {
-                    outcome: Outcome::Refused {
-                        number: 1,
-                        place: next,
-                    },
-                    header,
-                    net,
-                };
-            }
-            if !earlier_used(&used, net.inputs, net.gates) {
-                return NetRead {
-                    outcome: Outcome::Refused {
-                        number: 26,
-                        place: next,
-                    },
-                    header,
-                    net,
-                };
-            }
-            NetRead {
-                outcome: Outcome::Accepted,
-                header,
-                net,
-            }
-        }
+    if read.next < s.len() {
+        return Err(Refusal {
+            kind: Kind::Layout,
+            place: read.next,
+        });
     }
+    if !earlier_used(&read.used, net.inputs, net.gates) {
+        return Err(Refusal {
+            kind: Kind::UnusedGate,
+            place: read.next,
+        });
+    }
+    Ok(NetRead { header, net })
 }
 
 // Reads a net sheet from line 4 on.
-pub fn from_heading(s: &[u8], at: usize, header: Header) -> NetRead
+pub fn from_heading(s: &[u8], at: usize, header: Header) -> Result<NetRead, Refusal>
     requires { HeaderHeld s.now header }
     ensures { NetRest s.now at (from_heading (header_of s.now header)) result }
 {
-    match three_words(s, at, b"left", b"right", b"table") {
-        Step::Back { number, place } => NetRead {
-            outcome: Outcome::Refused { number, place },
-            header,
-            net: no_gates(0, 0),
-        },
-        Step::On { value: _, next } => from_gates(s, next, header),
-    }
+    let words = three_words(s, at, b"left", b"right", b"table")?;
+    from_gates(s, words.next, header)
 }
 
 // Reads a net sheet. It may be any bytes of any length.
-pub fn read_net(s: &[u8]) -> NetRead
+pub fn read_net(s: &[u8]) -> Result<NetRead, Refusal>
     ensures { NetReads s.now result }
 {
-    let read = header_lines(s, NEWLINE);
-    let step = read.step;
-    let header = read.header;
-    match step {
-        Step::Back { number, place } => NetRead {
-            outcome: Outcome::Refused { number, place },
-            header,
-            net: no_gates(0, 0),
-        },
-        Step::On { value: _, next } => from_heading(s, next, header),
-    }
+    let read = header_lines(s, NEWLINE)?;
+    from_heading(s, read.next, read.header)
 }

@@ -7,10 +7,11 @@ ghost use Rattle.nets.specs.Room.{most_gates, most_wires};
 ghost use Rattle.fields.specs.Steps.{judged_as, itself};
 ghost use Rattle.net_sheets.specs.Reader.References.{Referred, ReferenceJudged, ReferenceRead, marked_on};
 
+use answers::refusal::{Kind, Refusal};
 use fields::ends::after_field;
 use fields::header::keys::{key_of, same_key};
 use fields::runs::{SPACE, field_at};
-use fields::steps::{Found, Step, Verdict};
+use fields::steps::Field;
 use nets::forms::{MOST_WIRES, Net};
 use radix::limits::MOST_NAME_BYTES;
 
@@ -20,22 +21,20 @@ pub fn reference_of(
     lens: &[u8; MOST_WIRES],
     count: usize,
     w: &[u8],
-) -> Found
+) -> Option<usize>
     requires { count ≤ most_wires }
     ensures { Referred keys.now lens.now count w.now result }
 {
     if MOST_NAME_BYTES < w.len() {
-        return Found::Nowhere;
+        return None;
     }
     let key = key_of(w);
-    let mut r: usize = 0;
-    while r < count {
+    for r in 0..count {
         if same_key(key, w.len(), keys[r], lens[r]) {
-            return Found::At(r);
+            return Some(r);
         }
-        r += 1;
     }
-    Found::Nowhere
+    None
 }
 
 // Tests whether a gate uses r.
@@ -43,16 +42,10 @@ pub fn is_used(net: Net, r: usize) -> bool
     requires { net.gates ≤ most_gates }
     ensures { result ≡ any (eqb r) (used_by (gates_of net)) }
 {
-    let gates = net.gates;
-    let mut k: usize = 0;
-    while k < gates {
-        if net.left[k] as usize == r {
+    for k in 0..net.gates {
+        if net.left[k] as usize == r || net.right[k] as usize == r {
             return true;
         }
-        if net.right[k] as usize == r {
-            return true;
-        }
-        k += 1;
     }
     false
 }
@@ -62,12 +55,11 @@ pub fn earlier_used(used: &[bool; MOST_WIRES], inputs: usize, gates: usize) -> b
     requires { inputs + gates ≤ most_wires }
     ensures { result ≡ marked_on used.now inputs gates 0 }
 {
-    let mut k: usize = 0;
-    while k + 1 < gates {
+    let earlier = gates.saturating_sub(1);
+    for k in 0..earlier {
         if !used[inputs + k] {
             return false;
         }
-        k += 1;
     }
     true
 }
@@ -79,19 +71,19 @@ pub fn judge_reference(
     count: usize,
     w: &[u8],
     used: &mut [bool; MOST_WIRES],
-) -> Verdict
+) -> Result<usize, Kind>
     requires { count ≤ most_wires }
     ensures { ReferenceJudged keys.now lens.now count used.old w.now used.new
         (judged_as itself result) }
 {
     match reference_of(keys, lens, count, w) {
-        Found::Nowhere => Verdict::Bad(7),
-        Found::At(r) => {
+        None => Err(Kind::UnknownReference),
+        Some(r) => {
             if used[r] {
-                return Verdict::Bad(8);
+                return Err(Kind::UsedReference);
             }
             used[r] = true;
-            Verdict::Good(r)
+            Ok(r)
         }
     }
 }
@@ -104,7 +96,7 @@ pub fn reference_field(
     lens: &[u8; MOST_WIRES],
     count: usize,
     used: &mut [bool; MOST_WIRES],
-) -> Step
+) -> Result<Field, Refusal>
     requires { count ≤ most_wires }
     ensures { ReferenceRead s.now at keys.now lens.now count used.old used.new result }
 {

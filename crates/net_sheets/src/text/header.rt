@@ -36,11 +36,9 @@ pub fn print_names(s: &[u8], h: Header, count: usize, out: &mut [u8], at: usize)
     requires { NamesInside s.now h × (count ≤ h.inputs) × PutRoom out.old at (spaced_from (name_in s.now h) 0 count) }
     ensures { Put out.old at (spaced_from (name_in s.now h) 0 count) out.new result }
 {
-    let mut i: usize = 0;
-    let mut p: usize = at;
-    while i < count {
+    let mut p = at;
+    for i in 0..count {
         p = print_name(s, h, i, b' ', out, p);
-        i += 1;
     }
     p
 }

@@ -16,12 +16,7 @@ pub fn copy(t: &[u8], out: &mut [u8], at: usize) -> usize
     requires { PutRoom out.old at t.now }
     ensures { Put out.old at t.now out.new result }
 {
-    let mut i: usize = 0;
-    let mut p: usize = at;
-    while i < t.len() {
-        out[p] = t[i];
-        i += 1;
-        p += 1;
-    }
-    p
+    let end = at + t.len();
+    out[at..end].copy_from_slice(t);
+    end
 }

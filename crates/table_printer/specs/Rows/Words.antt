@@ -1,7 +1,7 @@
 -- A row's levels four at a time: four levels, each with the space after it, as one number, and its eight bytes.
 -- Assumes nothing.
 use Rattle.std.specs.Prelude.{◌<◌, ◌≤◌, ◌+◌, ◌-◌, ◌*◌, ◌%◌, ◌/◌, ◌≡◌, ◌∷◌, ◌++◌}
-use Rattle.laws.specs.Prelude.{ℕ, suc, zero, ◌∙◌, sym, ap, refl, List, [], map, div-div-eq-div-mul}
+use Rattle.laws.specs.Prelude.{ℕ, suc, zero, ◌∙◌, sym, ap, refl, List, [], map}
 use Rattle.laws.specs.Prelude.{arith, length, get_or, take, drop, set, length-append, length-drop, length-take-le, drop-cons, sets, length-sets, take-add}
 use Rattle.laws.specs.Prelude.{set_comm, set-set, digits_mod}
 use Rattle.rules.specs.Limits.{most_inputs}
@@ -57,26 +57,6 @@ bytes_of (suc k) w = w % 256 ∷ w / 256 % 256 ∷ bytes_of k (w / 65536)
 -- eight bytes
 abbrev pub word_bytes : ℕ → List ℕ
 word_bytes = bytes_of 4
-
--- the same, each by one division
-pub word_bytes_lem : (w : ℕ) →
-    w % 256 ∷ w / 256 % 256 ∷ w / 65536 % 256 ∷ w / 16777216 % 256
-    ∷ w / 4294967296 % 256 ∷ w / 1099511627776 % 256 ∷ w / 281474976710656 % 256 ∷ w / 72057594037927936 % 256 ∷ [] ≡ word_bytes w
-word_bytes_lem w = simp div-div-eq-div-mul
-
--- stored one byte after another
-pub bytes_set : (l : List ℕ) (at a b c d e f g h : ℕ)
-    → set (set (set (set (set (set (set (set l at a) (at + 1) b) (at + 2) c) (at + 3) d) (at + 4) e) (at + 5) f) (at + 6) g) (at + 7) h
-    ≡ sets l at (a ∷ b ∷ c ∷ d ∷ e ∷ f ∷ g ∷ h ∷ [])
-bytes_set l at a b c d e f g h =
-    let one : at + 1 ≡ suc at = omega arith in
-    let two : at + 2 ≡ suc (suc at) = omega arith in
-    let three : at + 3 ≡ suc (suc (suc at)) = omega arith in
-    let four : at + 4 ≡ suc (suc (suc (suc at))) = omega arith in
-    let five : at + 5 ≡ suc (suc (suc (suc (suc at)))) = omega arith in
-    let six : at + 6 ≡ suc (suc (suc (suc (suc (suc at))))) = omega arith in
-    let seven : at + 7 ≡ suc (suc (suc (suc (suc (suc (suc at)))))) = omega arith in
-    λ i. set (set (set (set (set (set (set (set l at a) (one i) b) (two i) c) (three i) d) (four i) e) (five i) f) (six i) g) (seven i) h
 
 -- levels as one number, the first the lowest
 abbrev pub levels_word : List ℕ → ℕ

@@ -1,14 +1,14 @@
 -- A block of m * m rows: the last two levels count up from 0, and the levels before them stay the same. A line of a block: the m rows in which only the
 -- last level counts up.
 -- Assumes nothing.
-use Rattle.std.specs.Prelude.{◌<◌, ◌≤◌, ◌+◌, ◌^◌, ◌*◌, ◌≡◌, ◌∷◌, ◌++◌}
+use Rattle.std.specs.Prelude.{◌<◌, ◌≤◌, ◌+◌, ◌^◌, ◌*◌, ◌≡◌, ◌∷◌, ◌++◌, Ok}
 use Rattle.laws.specs.Prelude.{ℕ, ◌∙◌, sym, ap, refl, true, false, Bool, false≢true, List, [], mul-le-mul_right}
 use Rattle.laws.specs.Prelude.{pow-suc, suc-mul, mul-le-mul, add-mul, add-one, arith, length, get_or, take, drop, set, get_or-take, take-take, digits_mod}
 use Rattle.laws.specs.Prelude.{digits_div}
 use Rattle.rules.specs.Limits.{most_levels, most_inputs}
 use Rattle.rules.specs.Sheets.Sheets.{levels_at}
 use Rattle.laws.specs.Numbers.Levels.{levels_below, levels_suc}
-use Rattle.fields.specs.declared.steps.Step.TheVariants.{On}
+use Rattle.fields.specs.declared.steps.Field.{Field}
 use Rattle.table_reader.specs.Fast.Due.{AreDigits, row_bytes, RowStands}
 use Rattle.table_reader.specs.Row.{row_line}
 use Rattle.table_reader.specs.Fast.Rows.{TableReached, reached_next}
@@ -53,6 +53,10 @@ pub block_left : (s before after : List ℕ) (at m front p rows end : ℕ) → t
 block_left s before after at m front p rows end kept =
     record { kept = kept; within = λ e. absurd (false≢true e); reached = λ e. absurd (false≢true e) }
 
+-- the row or line l of m, each of `size` bytes, is within the sheet if they all are
+pub next_within : (at place l m size most : ℕ) → l < m → place ≡ at + l * size → at + m * size ≤ most → place + size ≤ most
+next_within at place l m size most h e all = omega (arith, mul-le-mul_right size h, suc-mul l size, e, all)
+
 -- ---- the rows of a line
 
 -- one more row
@@ -62,8 +66,9 @@ pub line_next : {m k q : ℕ} {ls : List ℕ} → LevelsOf m k q ls → (s now :
 line_next {m} {k} {q} of s now start place l ink next h room row rows =
     let here = one_more of l h in
     let after : q * m + l + 1 ≡ q * m + (l + 1) = omega arith in
-    rw after at (reached_next s start m (k + 1) now place (q * m + l) rows here.most (On ink next)
-    (row.reads ∙ ap (λ xs. row_line m xs (drop place s) place) here.due) ink next refl (omega (arith, here.most)))
+    let found : Field = record { value = ink; next = next } in
+    rw after at (reached_next s start m (k + 1) now place (q * m + l) rows here.most (Ok found)
+    (row.reads ∙ ap (λ xs. row_line m xs (drop place s) place) here.due) found refl (omega (arith, here.most)))
 
 -- ---- the lines of a block
 
@@ -74,7 +79,8 @@ front_digits m front q levels of pos few k h =
 
 -- their bytes are few
 abbrev pub FewBytes : ℕ → ℕ → Type 0
-FewBytes m front = (m * row_bytes front ≤ most_levels * row_bytes most_inputs) × (m * (m * row_bytes front) ≤ most_levels * (most_levels * row_bytes most_inputs))
+FewBytes m front =
+    (m * row_bytes front ≤ most_levels * row_bytes most_inputs) × (m * (m * row_bytes front) ≤ most_levels * (most_levels * row_bytes most_inputs))
 
 pub few_bytes : (m front : ℕ) → m ≤ most_levels → front ≤ most_inputs → FewBytes m front
 few_bytes m front few inputs =
@@ -82,13 +88,13 @@ few_bytes m front few inputs =
     let line : m * row_bytes front ≤ most_levels * row_bytes most_inputs = mul-le-mul few row in
     (line, mul-le-mul few line)
 
--- and they are fewer than their rows
-pub fewer_lines : (q m : ℕ) → 0 < m → q ≤ q * m
-fewer_lines q m some = let wide : q * 1 ≤ q * m = mul-le-mul (omega arith) some in omega arith
-
--- cells before others that are unchanged are unchanged
-pub fewer_kept : (before after : List ℕ) (k p : ℕ) → k ≤ p → take p after ≡ take p before → take k after ≡ take k before
-fewer_kept before after k p h e = sym (take-take k p after h) ∙ ap (take k) e ∙ take-take k p before h
+-- cells before the block are unchanged if those before its line l are
+pub line_kept : (before after : List ℕ) (m q l : ℕ) → take ((q * m + l) * m) after ≡ take ((q * m + l) * m) before
+    → take (q * m * m) after ≡ take (q * m * m) before
+line_kept before after m q l e =
+    let earlier : q * m ≤ q * m + l = omega arith in
+    let most = mul-le-mul_right m earlier in
+    sym (take-take (q * m * m) ((q * m + l) * m) after most) ∙ ap (take (q * m * m)) e ∙ take-take (q * m * m) ((q * m + l) * m) before most
 
 -- the line after line l of block q
 pub line_after : (m q l : ℕ) → (q * m + l) * m + m ≡ (q * m + (l + 1)) * m

@@ -2,13 +2,14 @@
 -- Assumes nothing.
 use Rattle.std.specs.Prelude.{◌<◌, ◌≤◌, ◌+◌, ◌-◌, ◌^◌, ◌*◌, ◌≡◌, ◌∷◌, ◌++◌}
 use Rattle.laws.specs.Prelude.{ℕ, suc, zero, ◌∙◌, sym, ap, refl, ap₂, true, Bool, List, [], append_assoc}
-use Rattle.laws.specs.Prelude.{add-zero, zero-mul, suc-mul, add_assoc, add-mul, add-one, arith, length, take, drop, replicate, length-take-le, drop_at}
-use Rattle.laws.specs.Prelude.{take-add}
-use Rattle.rules.specs.Limits.{size_fits}
+use Rattle.laws.specs.Prelude.{add-zero, suc-mul, add_assoc, add-mul, add-one, arith, length, take, drop, replicate, length-take-le, drop_at}
+use Rattle.laws.specs.Prelude.{take-add, pow-suc, mul-le-mul_right}
+use Rattle.rules.specs.Limits.{size_fits, most_levels, most_inputs}
 use Rattle.rules.specs.Sheets.Sheets.{levels_at}
 use Rattle.laws.specs.Numbers.Levels.{next_levels, next_length, front_next}
-use Rattle.table_reader.specs.Fast.Block.{BlockTried, more_levels}
-use Rattle.table_reader.specs.Fast.Rows.{TableReached, InRows, none_reached, reached_kept}
+use Rattle.laws.specs.Numbers.Sizes.{Size, sized}
+use Rattle.table_reader.specs.Fast.Block.{BlockTried, more_levels, FewBytes, few_bytes}
+use Rattle.table_reader.specs.Fast.Rows.{TableReached, InRows, reached_kept}
 
 -- no row is read yet: `levels` begins with the levels of index 0, and the cells have room
 pub record RowsStart (m n : ℕ) (levels cells : List ℕ) : Type 0 where
@@ -17,6 +18,37 @@ pub record RowsStart (m n : ℕ) (levels cells : List ℕ) : Type 0 where
   pub due : take (n - 2) levels ≡ levels_at m (n - 2) 0
   pub zeros : take 2 (drop (n - 2) levels) ≡ 0 ∷ 0 ∷ []
   pub room : m ^ n ≤ length cells
+
+-- the bounds that this gives, for n = front + 2
+pub record StartBounds (m n front : ℕ) (levels cells : List ℕ) : Type 0 where
+  pub least : 0 < m
+  pub few : m ≤ most_levels
+  pub inputs : front ≤ most_inputs
+  pub all_inputs : n ≡ front + 1 + 1
+  pub short : front ≤ length levels
+  pub room : m ^ (front + 1 + 1) ≤ length cells
+  pub bytes : FewBytes m front
+
+pub start_bounds : {m n : ℕ} {levels cells : List ℕ} → RowsStart m n levels cells → StartBounds m n (n - 2) levels cells
+start_bounds {m} {n} starts =
+    let size : Size m n = sized m n starts.size in
+    let all : n ≡ n - 2 + 1 + 1 = omega (arith, size.inputs_least) in
+    let inputs : n - 2 ≤ most_inputs = omega (arith, size.inputs_most) in
+    record {
+      least = omega (arith, size.levels_least);
+      few = size.levels_most;
+      inputs = inputs;
+      all_inputs = all;
+      short = omega (arith, starts.short);
+      room = rw (← all) starts.room;
+      bytes = few_bytes m (n - 2) size.levels_most inputs;
+    }
+
+-- the rows of block q are among all
+pub block_within : (m front q : ℕ) → q < m ^ front → q * m * m + m * m ≤ m ^ (front + 1 + 1)
+block_within m front q more =
+    let lines : (q + 1) * m ≤ m ^ (front + 1) = rw (add-one front, pow-suc) (omega (arith, mul-le-mul_right m more)) in
+    rw (add-one (front + 1), pow-suc) (omega (arith, mul-le-mul_right m lines))
 
 pub two_zeros : (k count : ℕ) → k + 2 ≤ count → take 2 (drop k (replicate {A = ℕ} count 0)) ≡ 0 ∷ 0 ∷ []
 two_zeros k zero h = absurd (omega arith)
@@ -39,12 +71,6 @@ module _ (m front : ℕ) (pos : 0 < m) where
   -- .. and of block q
   first_levels : (q : ℕ) → levels_at m (front + 1 + 1) (q * m * m) ≡ levels_at m front q ++ (0 ∷ 0 ∷ [])
   first_levels q = line_levels (front + 1) (q * m) ∙ ap (λ ls. ls ++ (0 ∷ [])) (line_levels front q) ∙ append_assoc (levels_at m front q) (0 ∷ []) (0 ∷ [])
-
-  pub blocks_start : (s : List ℕ) (at : ℕ) (levels cells : List ℕ) → take front levels ≡ levels_at m front 0 → take 2 (drop front levels) ≡ 0 ∷ 0 ∷ []
-      → InBlocks s at m front cells levels at 0
-  blocks_start s at levels cells due zeros =
-      let none : 0 * m * m ≡ 0 = ap (λ k. k * m) (zero-mul m) ∙ zero-mul m in
-      record { most = omega arith; due = due; zeros = zeros; reached = rw none (none_reached s at m (front + 1 + 1) cells) }
 
   module _ (s : List ℕ) (at : ℕ) (cells levels : List ℕ) (place q : ℕ) (blocks : InBlocks s at m front cells levels place q) where
     -- one more block was read, and the levels were updated

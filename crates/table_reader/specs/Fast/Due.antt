@@ -1,19 +1,18 @@
 -- A row with the expected bytes, two bytes at a time.
 -- Assumes nothing.
 use Rattle.std.specs.Prelude.{◌<◌, ◌≤◌, ◌+◌, ◌*◌, ◌≡◌, ◌∷◌, ◌++◌}
-use Rattle.laws.specs.Prelude.{ℕ, ◌∙◌, sym, ap, refl, true, false, Bool, false≢true, List, [], arith, length, get_or}
-use Rattle.laws.specs.Prelude.{take, drop, drop_of_length-le, length-take-le}
+use Rattle.laws.specs.Prelude.{ℕ, suc, ◌∙◌, sym, ap, subst, refl, List, [], add-zero, arith, length, get_or}
+use Rattle.laws.specs.Prelude.{take, drop, length-take-le, get_or-take}
 use Rattle.rules.specs.Text.{space, newline, space_byte, newline_byte, open_byte}
 use Rattle.rules.specs.Sheets.Fields.{read, then, field}
 use Rattle.rules.specs.Sheets.Sheets.{level_field, ink_field, level_fields}
 use Rattle.laws.specs.Nets.Inks.{field_open}
 use Rattle.fields.specs.Chained.{field_then_then}
 use Rattle.fields.specs.Runs.{is_space, is_newline, is_neither}
-use Rattle.fields.specs.declared.steps.Step.TheVariants.{On}
 use Rattle.table_reader.specs.Fast.Plain.{OneByte, Plain, byte_read, plain_read}
 use Rattle.table_reader.specs.Inks.{ink_digit}
 use Rattle.table_reader.specs.Levels.{level_good}
-use Rattle.table_reader.specs.Row.{row_line, InRow, table_row_next}
+use Rattle.table_reader.specs.Row.{row_line}
 
 -- the first n levels are digits
 abbrev pub AreDigits : List ℕ → ℕ → Type 0
@@ -32,10 +31,6 @@ pub record RowStands (s : List ℕ) (at m : ℕ) (ls : List ℕ) (ink next : ℕ
   pub reads : read ink (drop next s) next ≡ row_line m ls (drop at s) at
   pub within : ink ≤ m
 
--- if the answer is no, nothing is claimed of the row
-pub not_due : {A : Type 0} → ◌≡◌ {A = Bool} false true → A
-not_due e = absurd (false≢true e)
-
 -- ---- the levels
 
 module _ (s : List ℕ) (place : ℕ) where
@@ -51,16 +46,23 @@ module _ (s : List ℕ) (place : ℕ) where
       → read ink (drop (place + 2) s) (place + 2) ≡ field (ink_field m) newline_byte (drop place s) place
   plain_ink m ink below plain = plain_read (ink_field m) ink s place ink newline_byte (is_newline newline_byte refl) plain (ink_digit m ink below)
 
-module _ (s levels : List ℕ) (at n place i : ℕ) (room : n ≤ length levels) (row : InRow s levels at n place i) where
-  pub table_levels_next : i < n → Plain s place (get_or levels i 0) space_byte → InRow s levels at n (place + 2) (i + 1)
-  table_levels_next more plain =
-      table_row_next s levels at n place i room row more (On 0 (place + 2)) (plain_level s place (get_or levels i 0) plain) 0 (place + 2) refl
+-- all levels are there, two bytes each
+pub plain_stand : (s ls : List ℕ) (at : ℕ) → ((k : ℕ) → k < length ls → Plain s (at + 2 * k) (get_or ls k 0) space_byte)
+    → LevelsStand s at ls (at + 2 * length ls)
+unfolding level_fields then space
+plain_stand s [] at plain = rw (add-zero at) refl
+plain_stand s (l ∷ ls) at plain =
+    let end : at + 2 + 2 * length ls ≡ at + 2 * suc (length ls) = omega arith in
+    let first : Plain s at l space_byte = rw (add-zero at) at (plain 0 (omega arith)) in
+    let rest = plain_stand s ls (at + 2)
+    (λ k h. subst (λ (p : ℕ). Plain s p (get_or ls k 0) space_byte) (omega arith) (plain (suc k) (omega arith))) in
+    rw (← (plain_level s at l first)) (rw end at rest)
 
-  pub levels_done : n ≤ i → LevelsStand s at (take n levels) place
-  unfolding level_fields
-  levels_done done =
-      let short : length (take n levels) ≤ i = rw (length-take-le n levels room) done in
-      sym (rw (drop_of_length-le (take n levels) short) at row.reads)
+pub levels_stand : (s levels : List ℕ) (at n : ℕ) → n ≤ length levels → ((k : ℕ) → k < n → Plain s (at + 2 * k) (get_or levels k 0) space_byte)
+    → LevelsStand s at (take n levels) (at + 2 * n)
+levels_stand s levels at n long plain =
+    let all : length (take n levels) ≡ n = length-take-le n levels long in
+    rw all at (plain_stand s (take n levels) at (λ k h. let below : k < n = omega (arith, all) in rw get_or-take (plain k below)))
 
 -- ---- the whole row
 
@@ -82,6 +84,6 @@ module _ (s ls : List ℕ) (m at end last : ℕ) (front : LevelsStand s at ls en
   due_row ink digit below = record { reads = rw (← all_levels) (plain_ink s (end + 2) m ink below digit); within = omega arith }
 
   -- .. or with the sign of an open cell
-  pub open_row : (ink : ℕ) → OneByte s (end + 2) open_byte newline_byte → ink ≡ m → RowStands s at m (ls ++ (last ∷ [])) ink (end + 2 + 2)
+  pub open_row : OneByte s (end + 2) open_byte newline_byte → RowStands s at m (ls ++ (last ∷ [])) m (end + 2 + 2)
   unfolding row_line then newline
-  open_row ink sign is = rw is (record { reads = rw (← all_levels) (sign_ink s (end + 2) m sign); within = omega arith })
+  open_row sign = record { reads = rw (← all_levels) (sign_ink s (end + 2) m sign); within = omega arith }

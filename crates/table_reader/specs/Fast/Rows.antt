@@ -1,21 +1,21 @@
 -- The rows, one after the other.
 -- Assumes nothing.
-use Rattle.std.specs.Prelude.{◌<◌, ◌≤◌, ◌+◌, ◌-◌, ◌^◌, ◌≡◌, ◌∷◌, ◌++◌}
-use Rattle.laws.specs.Prelude.{ℕ, suc, ◌∙◌, sym, ap, refl, List, [], sub-zero, add-one, arith, length, take, drop}
+use Rattle.std.specs.Prelude.{◌<◌, ◌≤◌, ◌+◌, ◌-◌, ◌^◌, ◌≡◌, ◌∷◌, ◌++◌, Ok, Err}
+use Rattle.laws.specs.Prelude.{ℕ, suc, ◌∙◌, sym, ap, refl, List, [], add-one, arith, length, take, drop}
 use Rattle.laws.specs.Prelude.{set, take-suc-set}
 use Rattle.laws.specs.Lists.Bounds.{Below, below_append}
 use Rattle.rules.specs.Sheets.Fields.{then}
 use Rattle.rules.specs.Sheets.Sheets.{levels_at, level_fields, row_lines}
-use Rattle.fields.specs.Steps.{step_as, itself}
-use Rattle.fields.specs.declared.steps.Step.{Step}
-use Rattle.fields.specs.declared.steps.Step.TheVariants.{On, Back}
-use Rattle.fields.specs.Chained.{field_then_then}
+use Rattle.answers.specs.declared.refusal.Refusal.{Refusal}
+use Rattle.fields.specs.Steps.{Step, step_as, itself}
+use Rattle.fields.specs.declared.steps.Field.{Field}
+use Rattle.fields.specs.Chained.{field_then_then, never_both}
 use Rattle.table_reader.specs.Row.{row_line, row_ink}
 
 -- reading all rows from `at` on; their inks are at the front of `cells`
 pub record RowsRead (s : List ℕ) (at m n : ℕ) (cells : List ℕ) (r : Step) : Type 0 where
   pub reads : step_as (λ _. take (m ^ n) cells) s r ≡ row_lines m n 0 (m ^ n) [] (drop at s) at
-  pub held : (value next : ℕ) → r ≡ On value next → Below (suc m) (take (m ^ n) cells)
+  pub held : (found : Field) → r ≡ Ok found → Below (suc m) (take (m ^ n) cells)
 
 rows_more : (m n p count : ℕ) (inks t : List ℕ) (q : ℕ)
     → row_lines m n p (suc count) inks t q ≡ then (row_line m (levels_at m n p) t q) (λ ink. row_lines m n (suc p) count (inks ++ (ink ∷ [])))
@@ -33,20 +33,17 @@ pub record InRows (s : List ℕ) (at m n : ℕ) (cells levels : List ℕ) (place
   pub reached : TableReached s at m n cells place p
   pub due : take n levels ≡ levels_at m n p
 
-pub none_reached : (s : List ℕ) (at m n : ℕ) (cells : List ℕ) → TableReached s at m n cells at 0
-none_reached s at m n cells = record { most = omega arith; inks = tt; reads = rw (sub-zero (m ^ n)) refl }
-
 module _ (s : List ℕ) (at m n : ℕ) (cells : List ℕ) (place p : ℕ) (rows : TableReached s at m n cells place p) where
   -- cells after those of the rows read do not matter
   pub reached_kept : (after : List ℕ) → take p after ≡ take p cells → TableReached s at m n after place p
   reached_kept after e = record { most = rows.most; inks = rw e rows.inks; reads = rw e rows.reads }
 
-  pub rows_done : m ^ n ≤ p → RowsRead s at m n cells (On 0 place)
+  pub rows_done : m ^ n ≤ p → RowsRead s at m n cells (Ok (record { value = 0; next = place }))
   unfolding row_lines
   rows_done done =
       let all : p ≡ m ^ n = omega (arith, rows.most) in
       let none_left : m ^ n - p ≡ 0 = omega arith in
-      record { reads = rw (rows.reads, none_left, all) refl; held = λ _ _ _. rw (← all) rows.inks }
+      record { reads = rw (rows.reads, none_left, all) refl; held = λ _ _. rw (← all) rows.inks }
 
   module _ (more : p < m ^ n) (step : Step) (row : step_as itself s step ≡ row_line m (levels_at m n p) (drop place s) place) where
     onward : row_lines m n 0 (m ^ n) [] (drop at s) at
@@ -58,26 +55,25 @@ module _ (s : List ℕ) (at m n : ℕ) (cells : List ℕ) (place p : ℕ) (rows 
         ∙ (rows_more m n p (m ^ n - (p + 1)) (take p cells) (drop place s) place
         ∙ ap (λ x. then x (λ ink. row_lines m n (suc p) (m ^ n - (p + 1)) (take p cells ++ (ink ∷ [])))) (sym row)))
 
-    pub rows_back : (number back : ℕ) → step ≡ Back number back → RowsRead s at m n cells step
+    pub rows_back : (e : Refusal) → step ≡ Err e → RowsRead s at m n cells (Err e)
     unfolding then
-    rows_back number back e =
-        record { reads = rw (onward, e) refl; held = λ value next q. let z : ◌≡◌ {A = ℕ} 0 1 = cc in absurd (omega arith) }
+    rows_back e is = record { reads = rw (onward, is) refl; held = λ found q. absurd (never_both (Err e) e found refl q) }
 
-    module _ (ink next : ℕ) (on : step ≡ On ink next) where
-      pub ink_within : ink ≤ m
-      ink_within = row_ink m (levels_at m n p) (drop place s) (drop next s) place ink next (sym row ∙ ap (step_as itself s) on)
+    module _ (ink : Field) (on : step ≡ Ok ink) where
+      pub ink_within : ink.value ≤ m
+      ink_within = row_ink m (levels_at m n p) (drop place s) (drop ink.next s) place ink.value ink.next (sym row ∙ ap (step_as itself s) on)
 
-      pub reached_next : p < length cells → TableReached s at m n (set cells p ink) next (p + 1)
+      pub reached_next : p < length cells → TableReached s at m n (set cells p ink.value) ink.next (p + 1)
       unfolding then
       reached_next here =
           record {
             most = omega arith;
-            inks = rw stored (below_append (suc m) (take p cells) (ink ∷ []) rows.inks (omega (arith, ink_within), tt));
+            inks = rw stored (below_append (suc m) (take p cells) (ink.value ∷ []) rows.inks (omega (arith, ink_within), tt));
             reads = rw (onward, on, stored, add-one) refl;
           }
         where
-          stored : take (p + 1) (set cells p ink) ≡ take p cells ++ (ink ∷ [])
-          stored = rw (add-one) (take-suc-set cells p ink here)
+          stored : take (p + 1) (set cells p ink.value) ≡ take p cells ++ (ink.value ∷ [])
+          stored = rw (add-one) (take-suc-set cells p ink.value here)
 
 -- the row that was read is the one given by `levels`
 pub row_due : {s : List ℕ} {at m n : ℕ} {cells levels : List ℕ} {place p : ℕ} → InRows s at m n cells levels place p → (step : Step)

@@ -1,19 +1,17 @@
 -- Levels at the expected places, four of them checked by eight bytes as one number.
 -- Assumes nothing.
-use Rattle.std.specs.Prelude.{◌<◌, ◌≤◌, ◌+◌, ◌-◌, ◌*◌, ◌≡◌}
-use Rattle.laws.specs.Prelude.{ℕ, suc, zero, ◌∙◌, sym, ap, subst, subst₂, List, add-one, dec_lt, ℕ_discrete, arith, length}
-use Rattle.laws.specs.Prelude.{get_or, take}
-use Rattle.rules.specs.Limits.{most_inputs}
-use Rattle.rules.specs.Text.{space_byte}
+use Rattle.std.specs.Prelude.{◌<◌, ◌≤◌, ◌+◌, ◌-◌, ◌*◌, ◌≡◌, ◌∷◌, ◌++◌}
+use Rattle.laws.specs.Prelude.{ℕ, ◌∙◌, sym, ap, List, [], dec_lt, ℕ_discrete, arith, length, get_or, take}
+use Rattle.rules.specs.Limits.{most_levels, most_inputs}
+use Rattle.rules.specs.Text.{zero_byte, space_byte, newline_byte, open_byte}
 use Rattle.table_reader.specs.declared.fast.words.Words.{Words}
-use Rattle.table_reader.specs.Fast.Plain.{Plain, two_plain}
+use Rattle.table_reader.specs.Fast.Plain.{OneByte, Plain, two_plain, two_bytes_are}
 use Rattle.table_reader.specs.Fast.Words.{pair_at, due_pair, word_at, due_word, middle_of, WideWords, middle_near}
-use Rattle.table_reader.specs.Row.{InRow, row_start}
-use Rattle.table_reader.specs.Fast.Due.{AreDigits, LevelsStand, table_levels_next, levels_done}
+use Rattle.table_reader.specs.Fast.Due.{AreDigits, LevelsStand, RowStands, levels_stand, all_levels, due_row, open_row}
 
 -- ---- equal numbers have equal parts
 
-pub small : (a b x y : ℕ) → a < 65536 → b < 65536 → a + 65536 * x ≡ b + 65536 * y → (a ≡ b) × (x ≡ y)
+small : (a b x y : ℕ) → a < 65536 → b < 65536 → a + 65536 * x ≡ b + 65536 * y → (a ≡ b) × (x ≡ y)
 small a b x y a< b< e = (omega (arith, e), omega (arith, e))
 
 large : (a b x y : ℕ) → a < 4294967296 → b < 4294967296 → a + 4294967296 * x ≡ b + 4294967296 * y → (a ≡ b) × (x ≡ y)
@@ -35,7 +33,8 @@ module _ (s levels : List ℕ) (at n : ℕ) (bytes : (k : ℕ) → get_or s k 0 
     due_below k k< = omega (arith, digits k k<)
 
     halves : (pair_at s (at + 2 * i) + 65536 * pair_at s (at + 2 * i + 2) ≡ due_pair (get_or levels i 0) + 65536 * due_pair (get_or levels (i + 1) 0))
-        × (pair_at s (at + 2 * i + 4) + 65536 * pair_at s (at + 2 * i + 4 + 2) ≡ due_pair (get_or levels (i + 2) 0) + 65536 * due_pair (get_or levels (i + 2 + 1) 0))
+        × (pair_at s (at + 2 * i + 4) + 65536 * pair_at s (at + 2 * i + 4 + 2)
+        ≡ due_pair (get_or levels (i + 2) 0) + 65536 * due_pair (get_or levels (i + 2 + 1) 0))
     halves =
         large _ _ _ _ (omega (arith, pair_below (at + 2 * i), pair_below (at + 2 * i + 2)))
         (omega (arith, digits i (omega arith), digits (i + 1) (omega arith))) same
@@ -59,23 +58,13 @@ module _ (s levels : List ℕ) (at n : ℕ) (bytes : (k : ℕ) → get_or s k 0 
 
 -- ---- all levels are there
 
-module _ (s levels : List ℕ) (at n : ℕ) (long : n ≤ length levels) (plain : (k : ℕ) → k < n → Plain s (at + 2 * k) (get_or levels k 0) space_byte) where
-  read_so_far : (i : ℕ) → i ≤ n → InRow s levels at n (at + 2 * i) i
-  read_so_far zero h = subst (λ (p : ℕ). InRow s levels at n p 0) (omega arith) (row_start s levels at n)
-  read_so_far (suc i) h =
-      subst₂ (λ (p j : ℕ). InRow s levels at n p j) (omega arith) (add-one i)
-      (table_levels_next s levels at n (at + 2 * i) i long (read_so_far i (omega arith)) (omega arith) (plain i (omega arith)))
-
-  pub plain_stand : LevelsStand s at (take n levels) (at + 2 * n)
-  plain_stand = levels_done s levels at n (at + 2 * n) n long (read_so_far n (omega arith)) (omega arith)
-
 pub wide_stand : (s levels : List ℕ) (at front : ℕ) (words : Words) → 4 ≤ front → front ≤ length levels → AreDigits levels front → at + 2 * front ≤ length s
     → front ≤ most_inputs → WideWords levels front words → ((k : ℕ) → get_or s k 0 < 256)
     → word_at s (at + 2 * 0) ≡ words.first → word_at s (at + 2 * middle_of front) ≡ words.middle → word_at s (at + 2 * (front - 4)) ≡ words.last
     → LevelsStand s at (take front levels) (at + 2 * front)
 wide_stand s levels at front words wide long digits room few due bytes first middle last =
     let near = middle_near front wide few in
-    plain_stand s levels at front long (λ k k<. go near k k< (dec_lt k 4) (dec_lt k (middle_of front + 4)))
+    levels_stand s levels at front long (λ k k<. go near k k< (dec_lt k 4) (dec_lt k (middle_of front + 4)))
   where
     go : (middle_of front ≤ front - 4) × (middle_of front ≤ 4) × (front - 4 ≤ middle_of front + 4) → (k : ℕ) → k < front
         → Dec (k < 4) → Dec (k < middle_of front + 4) → Plain s (at + 2 * k) (get_or levels k 0) space_byte
@@ -84,3 +73,36 @@ wide_stand s levels at front words wide long digits room few due bytes first mid
         four_plain s levels at front bytes digits room (middle_of front) (omega (arith, near)) (middle ∙ due.middle) k (omega (arith, near, past)) low
     go near k k< (no past) (no later) =
         four_plain s levels at front bytes digits room (front - 4) (omega arith) (last ∙ due.last) k (omega (arith, near, later)) (omega arith)
+
+-- ---- a whole row: the levels before its last two are there, and these two are checked as four bytes, and the ink as two
+
+module _ (s ls : List ℕ) (m at end before last : ℕ) (bytes : (k : ℕ) → get_or s k 0 < 256) (room : end + 6 ≤ length s) (before< : before < 10)
+    (last< : last < 10) (front : LevelsStand s at ls end)
+    (same : pair_at s end + 65536 * pair_at s (end + 2) ≡ due_pair before + 65536 * due_pair last) where
+  pairs : (pair_at s end ≡ due_pair before) × (pair_at s (end + 2) ≡ due_pair last)
+  pairs = small _ _ _ _ (omega (arith, bytes end, bytes (end + 1))) (omega (arith, before<)) same
+
+  before_last : LevelsStand s at (ls ++ (before ∷ [])) (end + 2)
+  before_last = all_levels s ls m at end before front (two_plain s end before space_byte (omega arith) (bytes end) before< pairs.0)
+
+  level : Plain s (end + 2) last space_byte
+  level = two_plain s (end + 2) last space_byte (omega arith) (bytes (end + 2)) last< pairs.1
+
+  module _ (next : ℕ) (all : next ≡ end + 6) where
+    -- with a digit as its ink, ..
+    pub digit_stands : (ink : ℕ) → ink < m → m ≤ most_levels → pair_at s (end + 4) ≡ zero_byte + 256 * newline_byte + ink
+        → RowStands s at m (ls ++ (before ∷ []) ++ (last ∷ [])) ink next
+    digit_stands ink below few is =
+        let there : end + 4 ≡ end + 2 + 2 = omega arith in
+        let after : end + 2 + 2 + 2 ≡ next = omega (arith, all) in
+        let digit : Plain s (end + 4) ink newline_byte = two_plain s (end + 4) ink newline_byte (omega arith) (bytes (end + 4)) (omega arith) is in
+        rw after at (due_row s (ls ++ (before ∷ [])) m at (end + 2) last before_last level ink (rw there at digit) below)
+
+    -- .. or with the sign of an open cell
+    pub sign_stands : pair_at s (end + 4) ≡ open_byte + 256 * newline_byte → RowStands s at m (ls ++ (before ∷ []) ++ (last ∷ [])) m next
+    sign_stands is =
+        let there : end + 4 ≡ end + 2 + 2 = omega arith in
+        let after : end + 2 + 2 + 2 ≡ next = omega (arith, all) in
+        let sign : OneByte s (end + 4) open_byte newline_byte =
+        two_bytes_are s (end + 4) open_byte newline_byte (omega arith) (bytes (end + 4)) (omega arith) is in
+        rw after at (open_row s (ls ++ (before ∷ [])) m at (end + 2) last before_last level (rw there at sign))

@@ -22,7 +22,8 @@ abbrev pub word_at : List ℕ → ℕ → ℕ
 word_at s at = packed (pair_at s at) (pair_at s (at + 2)) (pair_at s (at + 4)) (pair_at s (at + 4 + 2))
 
 abbrev pub due_word : List ℕ → ℕ → ℕ
-due_word levels i = packed (due_pair (get_or levels i 0)) (due_pair (get_or levels (i + 1) 0)) (due_pair (get_or levels (i + 2) 0)) (due_pair (get_or levels (i + 2 + 1) 0))
+due_word levels i =
+    packed (due_pair (get_or levels i 0)) (due_pair (get_or levels (i + 1) 0)) (due_pair (get_or levels (i + 2) 0)) (due_pair (get_or levels (i + 2 + 1) 0))
 
 -- where the second four begin
 unfoldable pub middle_of : ℕ → ℕ

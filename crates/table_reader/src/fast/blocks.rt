@@ -8,7 +8,6 @@ ghost use Rattle.table_reader.specs.Fast.Rows.{InRows};
 
 use crate::fast::due_row::due_ink;
 use crate::fast::words::{Words, words_of};
-use fields::steps::Found;
 use radix::levels::next_levels;
 use radix::powers::power;
 
@@ -38,16 +37,12 @@ fn due_line(
 {
     let row = 2 * front + 6;
     let mut place = at;
-    let mut l: usize = 0;
-    while l < m {
-        match due_ink(s, place, levels, words, front, before, l, m) {
-            Found::Nowhere => return false,
-            Found::At(ink) => {
-                cells[q * m + l] = ink as u8;
-                place += row;
-                l += 1;
-            }
-        }
+    for l in 0..m {
+        let Some(ink) = due_ink(s, place, levels, words, front, before, l, m) else {
+            return false;
+        };
+        cells[q * m + l] = ink as u8;
+        place += row;
     }
     true
 }
@@ -74,13 +69,11 @@ fn due_block(
     }
     let words = words_of(levels, front);
     let mut place = at;
-    let mut l: usize = 0;
-    while l < m {
+    for l in 0..m {
         if !due_line(s, place, levels, words, front, l, m, q * m + l, cells) {
             return false;
         }
         place += line;
-        l += 1;
     }
     true
 }
@@ -101,17 +94,14 @@ pub fn due_rows(
     let front = n - 2;
     let blocks = power(m, front);
     let bytes = m * (m * (2 * front + 6));
-    let mut place = at;
-    let mut q: usize = 0;
-    while q < blocks {
-        if !due_block(s, place, levels, front, m, q, cells) {
-            let rows = q * m * m;
-            return Taken { rows, place };
+    let mut taken = Taken { rows: 0, place: at };
+    for q in 0..blocks {
+        if !due_block(s, taken.place, levels, front, m, q, cells) {
+            return taken;
         }
         next_levels(m, front, levels);
-        place += bytes;
-        q += 1;
+        taken.rows += m * m;
+        taken.place += bytes;
     }
-    let rows = q * m * m;
-    Taken { rows, place }
+    taken
 }

@@ -1,14 +1,12 @@
 // A row with the expected bytes: all of them are known except the ink. They are compared eight at a time, or two at a time if there are few.
-ghost use Rattle.std.specs.Prelude.{◌≡◌, true, [], ◌∷◌, ◌++◌, ℕ, ◌+◌, ◌*◌, ◌≤◌, ◌<◌, length, take};
+ghost use Rattle.std.specs.Prelude.{◌≡◌, true, IfSome, [], ◌∷◌, ◌++◌, ◌+◌, ◌*◌, ◌≤◌, ◌<◌, length, take};
 ghost use Rattle.rules.specs.Limits.{most_levels, most_inputs};
-ghost use Rattle.fields.specs.declared.steps.Found.TheVariants.{At};
 ghost use Rattle.table_reader.specs.Fast.Words.{WordsOf};
 ghost use Rattle.table_reader.specs.Fast.Due.{AreDigits, row_bytes, LevelsStand, RowStands};
 
 use crate::fast::words::{LEVEL, Words, eight_bytes, four_bytes, middle_of, two_bytes};
 use crate::inks::OPEN;
 use fields::runs::{NEWLINE, ZERO};
-use fields::steps::Found;
 
 // The ink 0 with a line feed, as two bytes.
 const INK: usize = ZERO + 256 * NEWLINE as usize;
@@ -21,14 +19,10 @@ fn are_levels(s: &[u8], at: usize, levels: &[u8], n: usize) -> bool
     requires { (n ≤ length levels.now) × AreDigits levels.now n × (at + 2 * n ≤ length s.now) }
     ensures { result ≡ true → LevelsStand s.now at (take n levels.now) (at + 2 * n) }
 {
-    let mut i: usize = 0;
-    let mut p = at;
-    while i < n {
-        if two_bytes(s, p) != LEVEL + levels[i] as usize {
+    for i in 0..n {
+        if two_bytes(s, at + 2 * i) != LEVEL + levels[i] as usize {
             return false;
         }
-        i += 1;
-        p += 2;
     }
     true
 }
@@ -71,28 +65,28 @@ pub fn due_ink(
     before: usize,
     last: usize,
     m: usize,
-) -> Found
+) -> Option<usize>
     requires { (front ≤ length levels.now) × AreDigits levels.now front × (before < 10) × (last < 10) × (m ≤ most_levels)
         × (at + row_bytes front ≤ length s.now) × (front ≤ most_inputs) × WordsOf levels.now front words }
-    ensures { (ink : ℕ) → result ≡ At ink
-        → RowStands s.now at m (take front levels.now ++ (before ∷ []) ++ (last ∷ [])) ink (at + row_bytes front) }
+    ensures { IfSome result
+        (λ ink. RowStands s.now at m (take front levels.now ++ (before ∷ []) ++ (last ∷ [])) ink (at + row_bytes front)) }
 {
     if !levels_due(s, at, levels, front, words) {
-        return Found::Nowhere;
+        return None;
     }
     let end = at + 2 * front;
     if four_bytes(s, end) != LEVEL + before + 65536 * (LEVEL + last) {
-        return Found::Nowhere;
+        return None;
     }
     let ink = two_bytes(s, end + 4);
     if ink == SIGN {
-        return Found::At(m);
+        return Some(m);
     }
     if ink < INK {
-        return Found::Nowhere;
+        return None;
     }
     if m <= ink - INK {
-        return Found::Nowhere;
+        return None;
     }
-    Found::At(ink - INK)
+    Some(ink - INK)
 }

@@ -2,36 +2,21 @@
 -- neighbours at the input are in one block, and the first of them is not in its last run.
 -- Assumes nothing.
 use Rattle.std.specs.Prelude.{◌<◌, ◌≤◌, ◌+◌, ◌-◌, ◌^◌, ◌*◌, ◌%◌, ◌/◌, ◌≡◌}
-use Rattle.laws.specs.Prelude.{ℕ, suc, ◌∙◌, sym, ap, refl, true, false, Bool, not, true≢false, false≢true}
-use Rattle.laws.specs.Prelude.{zero-mul, mul-le-mul_right, suc-mul, mod-lt, div-lt_iff_lt-mul, div-add-mod', one-le-pow, mul_assoc, one-mul, pow-succ'}
+use Rattle.std.specs.Bool.{Decides}
+use Rattle.laws.specs.Prelude.{ℕ, suc, ◌∙◌, sym, ap, refl, true, false, Bool, List, not, false≢true, ℕ_discrete, length, get_or}
+use Rattle.laws.specs.Prelude.{mul-le-mul_right, mod-lt, div-lt_iff_lt-mul, div-add-mod', one-le-pow, mul_assoc, one-mul, pow-succ'}
 use Rattle.laws.specs.Prelude.{mul-pos, mul-add-div_right, add-div_right, lt-div-mul-add, arith, digits_lt, digits_mod, pow-add}
 use Rattle.rules.specs.Sheets.Sheets.{level}
 use Rattle.rules.specs.Nets.Leaves.{matters}
 use Rattle.trees.specs.Leaves.Neighbours.{same_idle, differ_matters}
-use Rattle.wirings.specs.Leaves.Runs.{WiringSameRuns, WiringCompared}
 
--- in block k, each cell except those in the last run has the ink of the cell one weight later
+-- each cell of a block, except those in its last run, has the ink of the cell one weight later
+abbrev pub SameCells : List ℕ → ℕ → Type 0
+SameCells block weight = (j : ℕ) → j < length block - weight → get_or block j 0 ≡ get_or block (weight + j) 0
+
+-- the same of block k
 abbrev pub SameBlock : (ℕ → ℕ) → ℕ → ℕ → ℕ → Type 0
-SameBlock f block weight k = WiringSameRuns f (k * block) (k * block + weight) (block - weight)
-
--- `same` says whether this holds for each of the blocks
-pub record AllBlocks (f : ℕ → ℕ) (blocks block weight : ℕ) (same : Bool) : Type 0 where
-  pub all : same ≡ true → (k : ℕ) → k < blocks → SameBlock f block weight k
-  pub one : same ≡ false → (k : ℕ) × (k < blocks) × (j : ℕ) × (j < block - weight) × (f (k * block + j) ≡ f (k * block + weight + j) → ⊥)
-
-module _ (f : ℕ → ℕ) (blocks block weight : ℕ) where
-  -- a block for which it does not hold, ..
-  pub blocks_differ : (k : ℕ) → k < blocks → {same : Bool} → WiringCompared f (k * block) (k * block + weight) (block - weight) same → same ≡ false
-      → AllBlocks f blocks block weight false
-  blocks_differ k k< differ e = let (j, j<, at) = differ.one e in record { all = λ e. absurd (false≢true e); one = λ e. (k, k<, j, j<, at) }
-
-  -- .. or none
-  pub blocks_same : ((k : ℕ) → k < blocks → SameBlock f block weight k) → AllBlocks f blocks block weight true
-  blocks_same same = record { all = λ e. same; one = λ e. absurd (true≢false e) }
-
--- a block is within the cells
-pub block_within : (k blocks block : ℕ) → k < blocks → k * block + block ≤ blocks * block
-block_within k blocks block h = rw (← suc-mul k block) (mul-le-mul_right block h)
+SameBlock f block weight k = (j : ℕ) → j < block - weight → f (k * block + j) ≡ f (k * block + weight + j)
 
 -- a block is m runs of the weight, and the cells are m ^ i blocks
 pub blocks_all : (m n i : ℕ) → i < n → m ^ n ≡ m ^ i * (m * m ^ (n - 1 - i))
@@ -89,25 +74,35 @@ module _ (m n : ℕ) (pos : 0 < m) (i : ℕ) (i< : i < n) where
         differ_matters m n pos i i< f (k * (m * w) + j) (rw (blocks_all m n i i<) (digits_lt k< (omega arith))) (rw run (inner_run j j<))
         (λ e. differ (e ∙ ap f (omega arith)))
 
-    blocks_tell : (same : Bool) → AllBlocks f (m ^ i) (m * m ^ (n - 1 - i)) (m ^ (n - 1 - i)) same → not same ≡ matters m n f i
-    blocks_tell true told = sym (blocks_idle (told.all refl))
-    blocks_tell false told = let (k, k<, j, j<, differ) = told.one refl in sym (block_matters k j k< j< differ)
+    -- so whether it holds for every block shows whether the input matters
+    blocks_tell : (same : Bool) → Decides same ((k : ℕ) → k < m ^ i → SameBlock f (m * m ^ (n - 1 - i)) (m ^ (n - 1 - i)) k) → not same ≡ matters m n f i
+    blocks_tell true told = sym (blocks_idle (told.0 refl))
+    blocks_tell false told = go (matters m n f i) refl
+      where
+        go : (t : Bool) → matters m n f i ≡ t → true ≡ matters m n f i
+        go true e = sym e
+        go false e = absurd (false≢true (told.1 λ k k< j j<. equal (ℕ_discrete _ _) (λ differ. false≢true (sym e ∙ block_matters k j k< j< differ))))
+          where
+            equal : {x y : ℕ} → Dec (x ≡ y) → ((x ≡ y → ⊥) → ⊥) → x ≡ y
+            equal (yes same) _ = same
+            equal (no differ) h = absurd (h differ)
 
-  -- for numbers equal to the weight and the number of blocks
-  module _ (weight blocks : ℕ) (weight_is : weight ≡ m ^ (n - 1 - i)) (blocks_are : blocks ≡ m ^ i) where
-    -- the first run is within the block, ..
+  -- for a number equal to the weight
+  module _ (weight : ℕ) (weight_is : weight ≡ m ^ (n - 1 - i)) where
+    -- a block is not empty, its first run is within it, ..
+    pub block_some : 0 < m * weight
+    block_some = rw weight_is some_block
+
     pub run_within : weight ≤ m * weight
     run_within = rw (one-mul weight) at (mul-le-mul_right weight pos)
 
-    -- .. and the blocks together are all cells
-    pub all_cells : blocks * (m * weight) ≡ m ^ n
-    all_cells = rw (weight_is, blocks_are) (sym (blocks_all m n i i<))
+    -- .. and the cells are whole blocks
+    pub cells_blocks : m ^ n ≡ m ^ i * (m * weight)
+    cells_blocks = rw weight_is (blocks_all m n i i<)
 
     pub block_fits : m * weight ≤ m ^ n
-    block_fits =
-        let some_blocks : 0 < blocks = rw blocks_are (one-le-pow i m pos) in
-        omega (arith, block_within 0 blocks (m * weight) some_blocks, all_cells, zero-mul (m * weight))
+    block_fits = rw cells_blocks (rw (one-mul (m * weight)) at (mul-le-mul_right (m * weight) (one-le-pow i m pos)))
 
     -- so they show whether the input matters
-    pub tell : (f : ℕ → ℕ) (same : Bool) → AllBlocks f blocks (m * weight) weight same → not same ≡ matters m n f i
-    tell f same = rw (weight_is, blocks_are) (blocks_tell f same)
+    pub tell : (f : ℕ → ℕ) (same : Bool) → Decides same ((k : ℕ) → k < m ^ i → SameBlock f (m * weight) weight k) → not same ≡ matters m n f i
+    tell f same = rw weight_is (blocks_tell f same)

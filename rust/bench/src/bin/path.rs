@@ -107,11 +107,19 @@ fn read_module(krate: &str, root: &Path, file: &Path) -> Module {
     module
 }
 
+/// Returns a text without the const arguments that it ends with, as in `counted_in::<MOST_CELLS>`.
+fn without_arguments(text: &str) -> &str {
+    match text.ends_with('>').then(|| text.rfind("::<")).flatten() {
+        Some(at) => &text[..at],
+        None => text,
+    }
+}
+
 /// Returns the paths that a body calls: the words before each `(`, split at `::`.
 fn calls(body: &str) -> Vec<Vec<String>> {
     let mut found = Vec::new();
     for (at, _) in body.match_indices('(') {
-        let word: Vec<char> = body[..at]
+        let word: Vec<char> = without_arguments(&body[..at])
             .chars()
             .rev()
             .take_while(|c| c.is_alphanumeric() || matches!(c, '_' | ':'))

@@ -6,7 +6,7 @@ use Rattle.accepted.specs.Both.{both_net_refused}
 use Rattle.accepted.proofs.both.read_both.Goals as goal
 
 pub read_beside-requires : goal.read_beside-requires
-read_beside-requires c = (net_taken _ _ c.read_net-read.ensures c.in-Accepted.is, search rules)
+read_beside-requires c = (net_taken _ _ c.read_net.ensures _ c.in-Ok.is, search rules)
 
-pub returns-in-Refused : goal.returns-in-Refused
-returns-in-Refused c = both_net_refused _ _ _ _ _ _ _ (net_refused_lem _ _ c.read_net-read.ensures _ _ c.in-Refused.is)
+pub returns-in-Err : goal.returns-in-Err
+returns-in-Err c = both_net_refused _ _ _ _ (net_refused_lem _ _ c.read_net.ensures _ c.in-Err.is)

@@ -5,16 +5,10 @@ use Rattle.arrivals.specs.ArrivalAnswers.{sheet_refused, sheet_held, sheet_settl
 use Rattle.arrivals.proofs.call.settle_by.Goals as goal
 
 pub settling-requires : goal.settling-requires
-settling-requires c =
-    (sound _ _ _ c.requires, sheet_held _ _ _ c.requires _ _ c.read_arrivals-read.ensures c.in-Accepted.is)
+settling-requires c = (sound _ _ _ c.requires, sheet_held _ _ _ c.requires _ _ c.read_arrivals.ensures _ c.in-Ok.is)
 
-pub returns-in-Refused : goal.returns-in-Refused
-returns-in-Refused c =
-    sheet_refused _ _ _ c.requires _ _ c.read_arrivals-read.ensures _ _ _ c.in-Refused.is
+pub returns-in-Err : goal.returns-in-Err
+returns-in-Err c = sheet_refused _ _ _ c.requires _ _ c.read_arrivals.ensures _ _ c.in-Err.is
 
-pub returns-in-Accepted : goal.returns-in-Accepted
-returns-in-Accepted c =
-    sheet_settles _ _ _ c.requires _ _ c.read_arrivals-read.ensures c.in-Accepted.is _ _ c.settling.ensures
-
-pub read_arrivals-read-requires : goal.read_arrivals-read-requires
-read_arrivals-read-requires c = c.requires.header
+pub returns-in-Ok : goal.returns-in-Ok
+returns-in-Ok c = sheet_settles _ _ _ c.requires _ _ c.read_arrivals.ensures _ c.in-Ok.is _ _ c.settling.ensures

@@ -4,4 +4,4 @@ use Rattle.capi.specs.Numbers.Timing.{flat_timing}
 use Rattle.capi.proofs.arrival_times.sitgurp_arrivals.Goals as goal
 
 pub returns : goal.returns
-returns c = c.flat_timing.ensures ∙ ap flat_timing c.arrivals.ensures
+returns c = c.from.ensures ∙ ap flat_timing c.arrivals.ensures

@@ -8,6 +8,6 @@ pub returns : goal.returns
 returns c =
     let did = c.check.ensures in
     record {
-      answer = c.flat_verdict.ensures ∙ ap (λ (r : Checked). flat_verdict r.answer) did;
+      answer = c.from.ensures ∙ ap (λ (r : Checked). flat_verdict r.answer) did;
       cells_then = ap (λ (r : Checked). r.cells) did;
     }

@@ -3,4 +3,4 @@ use Rattle.capi.specs.Counted.{flat_counted}
 use Rattle.capi.proofs.family_count.sitgurp_family_count.Goals as goal
 
 pub returns : goal.returns
-returns c = flat_counted c.family_count.ensures c.flat.ensures
+returns c = flat_counted c.family_count.ensures c.from.ensures

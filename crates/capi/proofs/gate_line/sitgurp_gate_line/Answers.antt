@@ -4,4 +4,4 @@ use Rattle.capi.specs.Numbers.Turn.{flat_turn}
 use Rattle.capi.proofs.gate_line.sitgurp_gate_line.Goals as goal
 
 pub returns : goal.returns
-returns c = c.flat_turn.ensures ∙ ap flat_turn c.line.ensures
+returns c = c.from.ensures ∙ ap flat_turn c.line.ensures

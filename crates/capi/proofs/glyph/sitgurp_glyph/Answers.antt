@@ -8,6 +8,6 @@ pub returns : goal.returns
 returns c =
     let did = c.glyph.ensures in
     record {
-      answer = c.flat.ensures ∙ ap (λ (r : Written). flat_of r.answer) did;
+      answer = c.from.ensures ∙ ap (λ (r : Written). flat_of r.answer) did;
       output_then = ap (λ (r : Written). r.output) did;
     }

@@ -3,4 +3,4 @@ use Rattle.capi.specs.Made.{flat_made}
 use Rattle.capi.proofs.job_finish.sitgurp_job_finish_parts.Goals as goal
 
 pub returns : goal.returns
-returns c = λ own_marks. flat_made (c.finish_in.ensures own_marks) c.flat.ensures
+returns c = λ own_marks. flat_made (c.finish_in.ensures own_marks) c.from.ensures

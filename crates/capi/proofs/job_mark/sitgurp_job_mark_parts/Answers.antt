@@ -4,4 +4,4 @@ use Rattle.capi.specs.Numbers.Reached.{flat_reached}
 use Rattle.capi.proofs.job_mark.sitgurp_job_mark_parts.Goals as goal
 
 pub returns : goal.returns
-returns c = λ cells. c.flat_reached.ensures ∙ ap flat_reached (c.mark_in.ensures cells)
+returns c = λ cells. c.from.ensures ∙ ap flat_reached (c.mark_in.ensures cells)

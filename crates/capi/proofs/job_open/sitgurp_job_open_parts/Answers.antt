@@ -3,4 +3,4 @@ use Rattle.capi.specs.JobOpen.{flat_opened}
 use Rattle.capi.proofs.job_open.sitgurp_job_open_parts.Goals as goal
 
 pub returns : goal.returns
-returns c = flat_opened _ _ c.open-opened.ensures _ c.flat_done.ensures
+returns c = flat_opened _ _ c.open-opened.ensures _ c.from.ensures

@@ -11,7 +11,7 @@ overflow_add-g c =
     omega (
       arith,
       next_room a.lines.now a.cells.now a.marks.now a.passed.now _
-          (subst (NextMark (job_in a.lines.now a.cells.now a.marks.now a.passed.now)) c.in-Mark.is
+          (subst (NextMark (job_in a.lines.now a.cells.now a.marks.now a.passed.now)) c.in-Some.is
           c.next_mark-found.ensures),
     )
 
@@ -21,18 +21,19 @@ bounds-marks-g c =
     omega (
       arith,
       next_room a.lines.now a.cells.now a.marks.now a.passed.now _
-          (subst (NextMark (job_in a.lines.now a.cells.now a.marks.now a.passed.now)) c.in-Mark.is
+          (subst (NextMark (job_in a.lines.now a.cells.now a.marks.now a.passed.now)) c.in-Some.is
           c.next_mark-found.ensures),
     )
 
-pub returns-in-Done : goal.returns-in-Done
-returns-in-Done c =
+pub returns-in-None : goal.returns-in-None
+returns-in-None c =
     let a = c.args in
-    flat_step_done a.lines.now a.cells.now a.marks.now a.passed.now
-    (subst (NextMark (job_in a.lines.now a.cells.now a.marks.now a.passed.now)) c.in-Done.is c.next_mark-found.ensures)
+    rw c.number.ensures
+    (flat_step_done a.lines.now a.cells.now a.marks.now a.passed.now
+    (subst (NextMark (job_in a.lines.now a.cells.now a.marks.now a.passed.now)) c.in-None.is c.next_mark-found.ensures))
 
-pub returns-in-Mark : goal.returns-in-Mark
-returns-in-Mark c =
+pub returns-in-Some : goal.returns-in-Some
+returns-in-Some c =
     let a = c.args in
     flat_step_on a.lines.now a.cells.now a.marks.now a.passed.now _
-    (subst (NextMark (job_in a.lines.now a.cells.now a.marks.now a.passed.now)) c.in-Mark.is c.next_mark-found.ensures)
+    (subst (NextMark (job_in a.lines.now a.cells.now a.marks.now a.passed.now)) c.in-Some.is c.next_mark-found.ensures)

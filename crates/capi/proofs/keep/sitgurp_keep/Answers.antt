@@ -8,7 +8,7 @@ pub returns : goal.returns
 returns c =
     let did = c.keep.ensures in
     record {
-      answer = c.flat_kept.ensures ∙ ap (λ (r : KeptWiring). flat_kept r.answer) did;
+      answer = c.from.ensures ∙ ap (λ (r : KeptWiring). flat_kept r.answer) did;
       cells_then = ap (λ (r : KeptWiring). r.cells) did;
       output_then = ap (λ (r : KeptWiring). r.output) did;
     }

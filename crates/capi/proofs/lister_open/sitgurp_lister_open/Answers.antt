@@ -4,4 +4,4 @@ use Rattle.capi.specs.Numbers.Flat.{flat_of}
 use Rattle.capi.proofs.lister_open.sitgurp_lister_open.Goals as goal
 
 pub returns : goal.returns
-returns c = c.flat_opened.ensures ∙ ap flat_of c.open.ensures
+returns c = c.from.ensures ∙ ap flat_of c.open.ensures

@@ -3,4 +3,4 @@ use Rattle.capi.specs.Made.{flat_made}
 use Rattle.capi.proofs.make.sitgurp_make.Goals as goal
 
 pub returns : goal.returns
-returns c = flat_made c.make.ensures c.flat.ensures
+returns c = flat_made c.make.ensures c.from.ensures

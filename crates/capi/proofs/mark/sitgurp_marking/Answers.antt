@@ -8,6 +8,6 @@ pub returns : goal.returns
 returns c =
     let did = c.marking.ensures in
     record {
-      answer = c.flat.ensures ∙ ap (λ (r : Marked). flat_of r.answer) did;
+      answer = c.from.ensures ∙ ap (λ (r : Marked). flat_of r.answer) did;
       buffer = ap (λ (r : Marked). r.marks) did;
     }

@@ -4,4 +4,4 @@ use Rattle.capi.specs.Numbers.Flat.{flat_of}
 use Rattle.capi.proofs.multiplicity.sitgurp_multiplicity.Goals as goal
 
 pub returns : goal.returns
-returns c = c.flat.ensures ∙ ap flat_of c.multiplicity.ensures
+returns c = c.from.ensures ∙ ap flat_of c.multiplicity.ensures

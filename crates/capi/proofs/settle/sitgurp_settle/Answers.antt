@@ -3,4 +3,4 @@ use Rattle.capi.specs.Made.{flat_made}
 use Rattle.capi.proofs.settle.sitgurp_settle.Goals as goal
 
 pub returns : goal.returns
-returns c = flat_made c.settle.ensures c.flat.ensures
+returns c = flat_made c.settle.ensures c.from.ensures

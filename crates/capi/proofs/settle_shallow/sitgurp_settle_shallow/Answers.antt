@@ -3,4 +3,4 @@ use Rattle.capi.specs.Layered.{flat_layered_lem}
 use Rattle.capi.proofs.settle_shallow.sitgurp_settle_shallow.Goals as goal
 
 pub returns : goal.returns
-returns c = flat_layered_lem c.settle_shallow.ensures c.flat_layered.ensures
+returns c = flat_layered_lem c.settle_shallow.ensures c.from.ensures

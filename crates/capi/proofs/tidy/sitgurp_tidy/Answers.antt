@@ -8,7 +8,7 @@ pub returns : goal.returns
 returns c =
     let did = c.tidy.ensures in
     record {
-      answer = c.flat.ensures ∙ ap (λ (r : Tidied). flat_of r.answer) did;
+      answer = c.from.ensures ∙ ap (λ (r : Tidied). flat_of r.answer) did;
       cells_then = ap (λ (r : Tidied). r.cells) did;
       output_then = ap (λ (r : Tidied). r.output) did;
     }

@@ -5,5 +5,5 @@ use Rattle.cells.proofs.full.judge_full.Goals as goal
 pub returns-then-k-cells : goal.returns-then-k-cells
 returns-then-k-cells c = first_open _ _ _ c.first_at_least-k.ensures c.requires.1 c.if-k-cells.true
 
-pub returns-else-k-cells : goal.returns-else-k-cells
-returns-else-k-cells c = cell_none_open _ _ _ c.first_at_least-k.ensures c.if-k-cells.false
+pub returns : goal.returns
+returns c = cell_none_open _ _ _ c.first_at_least-k.ensures c.if-k-cells.false

@@ -1,17 +1,14 @@
--- `checking::same::all_same` meets its contract. The loop's invariant: if no difference was found, the two are the same below `i`. Assumes nothing.
-use Rattle.laws.specs.Prelude.{◌∙◌, sym, arith}
-use borrow.Author.Count.{below_more}
+-- `checking::same::all_same` meets its contract: where ys begins with xs, the two are the same on the length of xs. Assumes nothing.
+use Rattle.std.specs.Prelude.{ℕ, ◌≡◌, ◌++◌, get_or}
+use Rattle.laws.specs.Prelude.{◌∙◌, sym, ap, List, drop, length}
+use Rattle.std.proofs.lemmas.List.{get_or_append_left}
+use Rattle.std.proofs.lemmas.Bool.Decides.{Decides-eqb}
+use Rattle.std.proofs.lemmas.Slice.Eq.{starts_is}
 use Rattle.checking.proofs.same.all_same.Goals as goal
-use Rattle.checking.proofs.same.all_same.Goals.{then-xs-i, else-xs-i}
-
-pub loop-i-init : goal.loop-i-init
-loop-i-init c = λ _ p h. absurd (omega arith)
-
-pub loop-i-preserved : goal.loop-i-preserved
-loop-i-preserved c = elim c.if-xs-i.branch [
-  | then-xs-i w ↦ λ is p h. let other = w.same-is in cc
-  | else-xs-i w ↦ λ is. below_more _ _ (c.loop-i.invariant (sym w.same-is ∙ is)) w.if-xs-i.false
-]
 
 pub returns : goal.returns
-returns c = λ is p h. c.loop-i.invariant is p (omega (arith, c.loop-i-test.false))
+returns c e p h =
+    let xs = c.args.xs.now in
+    let ys = c.args.ys.now in
+    let is : ys ≡ xs ++ drop (length xs) ys = (starts_is Decides-eqb ys xs _ c.starts_with.ensures.value).0 e in
+    sym (ap (λ (l : List ℕ). get_or l p 0) is ∙ get_or_append_left xs _ 0 p h)

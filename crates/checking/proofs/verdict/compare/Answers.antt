@@ -1,22 +1,14 @@
--- `checking::verdict::compare` meets its contract. The loop's invariant: the two agree at each index below `i` at which the table is not open.
+-- `checking::verdict::compare` meets its contract: the first pair that differs.
 -- Assumes nothing.
-use Rattle.laws.specs.Prelude.{arith}
-use borrow.Author.Count.{below_more}
-use Rattle.checking.specs.Comparing.{agree_all, differ_first}
+use Rattle.laws.specs.Prelude.{rules}
+use Rattle.std.proofs.lemmas.Iterator.{IsFirst-from_position, YieldsList-from_slice, YieldsList-from_zip}
+use Rattle.checking.specs.Comparing.{PairDiffers, PairAgrees, pairs_compared}
 use Rattle.checking.proofs.verdict.compare.Goals as goal
 
-pub loop-i-init : goal.loop-i-init
-loop-i-init c = (omega arith, λ p h. absurd (omega arith))
-
-pub returns-then-differs : goal.returns-then-differs
-returns-then-differs c =
-    let at = c.loop-i in
-    differ_first _ _ _ at.i (omega arith) (c.differs.ensures.0 c.if-differs.true) at.invariant.1
-
-pub loop-i-preserved : goal.loop-i-preserved
-loop-i-preserved c =
-    let at = c.loop-i in
-    (omega arith, below_more _ _ at.invariant.1 (c.differs.ensures.1 c.if-differs.false))
-
 pub returns : goal.returns
-returns c = agree_all _ _ _ (λ p h. c.loop-i.invariant.1 p (omega arith))
+returns c =
+    let xs = c.args.xs.now in
+    let ys = c.args.ys.now in
+    pairs_compared c.args.m xs ys c.requires _
+    (IsFirst-from_position c.position.new.self _ c.position.result (PairDiffers c.args.m) (PairAgrees c.args.m) c.position.ensures.ran
+    (YieldsList-from_zip (YieldsList-from_slice xs cc) (YieldsList-from_slice ys cc)) (λ x q k. search rules) (λ x q k. search rules))

@@ -5,8 +5,8 @@ use Rattle.checking.proofs.verdict.compare_into.Goals as goal
 
 pub returns-then-all_same : goal.returns-then-all_same
 returns-then-all_same c =
-    inks_compared _ _ _ _ _ _ c.requires.2 c.copy.ensures _ (agree_all _ _ _ (λ p h _. c.all_same.ensures c.if-all_same.true p h))
+    inks_compared _ _ _ _ _ _ c.requires.1 c.copy.ensures _ (agree_all _ _ _ (λ p h _. c.all_same.ensures c.if-all_same.true p h))
 
 pub returns : goal.returns
 returns c =
-    inks_compared _ _ _ _ _ _ c.requires.2 c.copy.ensures _ c.compare.ensures
+    inks_compared _ _ _ _ _ _ c.requires.1 c.copy.ensures _ c.compare.ensures

@@ -1,27 +1,13 @@
 -- `classes::alike::class_of` meets its contract. The loop's invariant: none of the first j is alike. Assumes nothing.
-use Rattle.std.specs.Prelude.{◌-◌, ◌≡◌}
-use Rattle.laws.specs.Prelude.{◌∙◌, sym, arith}
-use borrow.Author.Count.{below_more}
-use Rattle.classes.specs.Firsts.{search_is}
+use Rattle.std.specs.Prelude.{◌≡◌}
+use Rattle.laws.specs.Prelude.{◌∙◌, sym, arith, length-take-le}
+use Rattle.cells.specs.Bound.{first_is}
 use Rattle.classes.proofs.alike.class_of.Goals as goal
 
-pub alike-requires : goal.alike-requires
-alike-requires c = let pre = c.requires in (pre.1, pre.2 c.loop-j.j c.loop-j-test.true)
-
 pub returns-then-alike : goal.returns-then-alike
-returns-then-alike c =
-    search_is _ _ _ c.loop-j.j c.requires.0 c.loop-j.invariant.0 c.loop-j.invariant.1 (λ _. sym c.alike.ensures ∙ c.if-alike.true)
-
-pub loop-j-preserved : goal.loop-j-preserved
-loop-j-preserved c = (omega arith, below_more _ _ c.loop-j.invariant.1 (sym c.alike.ensures ∙ c.if-alike.false))
+returns-then-alike c = first_is _ _ c.loop-j.j (omega arith) c.loop-j.invariant (λ _. sym c.alike.ensures ∙ c.if-alike.true)
 
 pub returns : goal.returns
 returns c =
-    let all : c.args.count ≡ c.loop-j.j = omega arith in
-    all ∙ search_is _ _ _ c.loop-j.j c.requires.0 c.loop-j.invariant.0 c.loop-j.invariant.1 (λ h. absurd (omega arith))
-
-pub loop-j-init : goal.loop-j-init
-loop-j-init c = (omega arith, λ i h. absurd (omega arith))
-
-pub overflow_cast-firsts : goal.overflow_cast-firsts
-overflow_cast-firsts c = omega (arith, c.shared_slice_known-in-loop-j-1.given c.loop-j.j)
+    let all : c.args.count ≡ c.loop-j.j = omega (arith, length-take-le c.args.count c.args.firsts.now c.requires.0) in
+    all ∙ first_is _ _ c.loop-j.j (omega arith) c.loop-j.invariant (λ h. absurd (omega arith))

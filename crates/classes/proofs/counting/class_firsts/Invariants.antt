@@ -1,17 +1,12 @@
 -- `classes::counting::class_firsts` meets its contract. The loop's invariant: what is kept and the assignments not yet visited give the classes of
 -- all; each that is kept is in the chain of its key.
 -- Assumes nothing.
-use Rattle.std.specs.Prelude.{◌-◌, ◌≡◌}
 use Rattle.laws.specs.Prelude.{length}
 use Rattle.rules.specs.Calls.Answers.{ink_in}
 use Rattle.classes.specs.Counting.{FirstsFound}
 use Rattle.classes.proofs.KeptChains.{Chained}
 use Rattle.classes.proofs.counting.class_firsts.Given as goal
 
-abbrev pub invariant-loop-i : goal.invariant-loop-i
-invariant-loop-i l =
-    (length l.firsts ≡ length l.initial.firsts) × (length l.links ≡ length l.initial.links) × (length l.heads ≡ length l.initial.heads)
-    × FirstsFound (ink_in l.cells) (length l.cells) l.ys l.xs l.enough l.firsts l.count l.i × Chained l.m (ink_in l.cells) l.ys l.width l.firsts l.links l.heads l.count
-
-abbrev pub decreases-loop-i : goal.decreases-loop-i
-decreases-loop-i l = length l.xs - l.i
+abbrev pub invariant-loop-p : goal.invariant-loop-p
+invariant-loop-p l =
+    FirstsFound (ink_in l.cells) (length l.cells) l.ys l.xs l.enough l.firsts l.count l.p-index × Chained l.m (ink_in l.cells) l.ys l.width l.firsts l.links l.heads l.count

@@ -3,7 +3,6 @@ use Rattle.std.specs.Prelude.{◌+◌}
 use Rattle.laws.specs.Prelude.{arith, length}
 use Rattle.rules.specs.Groups.Groups.{classes, multiplicity}
 use Rattle.rules.specs.Calls.Answers.{ink_in}
-use Rattle.radix.specs.Fronts.{fits_in}
 use Rattle.classes.specs.Chains.{no_chains}
 use Rattle.classes.specs.Firsts.{front_test, group_front}
 use Rattle.classes.specs.Keys.{key_none}
@@ -36,9 +35,3 @@ returns c =
     let a = c.args in
     front_test a.m (classes a.m a.n (ink_in a.cells.now) a.g)
     (group_front a.m a.n a.g (ink_in a.cells.now) fronts.0 fronts.1 (a.m + 1) c.class_firsts.ensures)
-
-pub slice_bounds-class_firsts-end : goal.slice_bounds-class_firsts-end
-slice_bounds-class_firsts-end c = fits_in c.group_offsets-counts.ensures.0
-
-pub slice_bounds-class_firsts-end-2 : goal.slice_bounds-class_firsts-end-2
-slice_bounds-class_firsts-end-2 c = fits_in c.group_offsets-counts.ensures.1

@@ -1,5 +1,5 @@
 -- `classes::keys::in_chain` meets its contract. The loop's invariant: if one in the chain is alike to p, it is in the rest. Assumes nothing.
-use Rattle.std.specs.Prelude.{◌≤◌, ◌-◌}
+use Rattle.std.specs.Prelude.{◌≤◌}
 use Rattle.rules.specs.Calls.Answers.{ink_in}
 use Rattle.rules.specs.Groups.Groups.{alike_over}
 use Rattle.classes.specs.Chains.{Rest}

@@ -1,20 +1,19 @@
 -- `classes::multiplicity::multiplicity` meets its contract: the refusal of the bare cells, or the group's answer.
 -- Assumes nothing.
-use Rattle.laws.specs.Prelude.{◌∙◌, sym, ap}
-use Rattle.answers.specs.AnswerMaps.{outcome_as}
-use Rattle.laws.specs.Calls.OpenCells.{cells_sized}
-use Rattle.laws.specs.Calls.Multiplicity.{multiplicity_refused, multiplicity_judged}
-use Rattle.cells.specs.Full.{accepted_full}
+use Rattle.std.proofs.lemmas.Result.{err_from_is_err_and}
+use Rattle.laws.specs.Prelude.{◌∙◌}
+use Rattle.laws.specs.Calls.Multiplicity.{group_answer, multiplicity_refused, multiplicity_judged}
 use Rattle.classes.proofs.multiplicity.multiplicity.Goals as goal
 
-pub group_answer-requires : goal.group_answer-requires
-group_answer-requires c =
-    let full = sym (ap (outcome_as tt) c.in-Accepted.is) ∙ c.full_cells-judged.ensures in
-    (accepted_full _ _ _ full, (cells_sized _ _ _ full).1)
+pub returns-in_err-table : goal.returns-in_err-table
+returns-in_err-table c =
+    let p = err_from_is_err_and c.from_residual.result c.from_residual.ensures.1 in
+    rw (p.1, p.2) (multiplicity_refused _ _ _ _ _ _ c.in_err-table.ensures.answer)
 
-pub returns-in-Refused : goal.returns-in-Refused
-returns-in-Refused c = multiplicity_refused _ _ _ _ _ _ (sym (ap (outcome_as tt) c.in-Refused.is) ∙ c.full_cells-judged.ensures)
-
-pub returns-in-Accepted : goal.returns-in-Accepted
-returns-in-Accepted c = c.group_answer.ensures ∙ multiplicity_judged _ _ _ _
-    (sym (ap (outcome_as tt) c.in-Accepted.is) ∙ c.full_cells-judged.ensures)
+pub returns : goal.returns
+returns c =
+    let a = c.args in
+    let told = c.full.ensures.told _ c.in_ok-table.was in
+    c.group_answer.ensures
+    ∙ (λ i. group_answer (told.0 i) (told.1 i) (told.2 i) a.group)
+    ∙ multiplicity_judged _ _ _ _ c.in_ok-table.ensures.answer

@@ -2,7 +2,6 @@
 use Rattle.std.specs.Prelude.{◌-◌, ◌^◌, ◌≡◌}
 use Rattle.laws.specs.Prelude.{ℕ, sym, subst⁻¹, List, le_of_eq, arith, length, take, rules}
 use Rattle.rules.specs.Limits.{most_inputs}
-use Rattle.rules.specs.Groups.Marks.{marks_of}
 use Rattle.rules.specs.Calls.Answers.{ink_in}
 use Rattle.settling.specs.Outcomes.{given_size, given_count, given_below, made_inside, settling_made_short}
 use Rattle.tree_counts.specs.Counts.{CountsKnown}
@@ -41,11 +40,9 @@ family_net-net-requires c =
     let size = given_size _ _ _ c.requires.0 in
     let did = c.count_marked-counted in
     let own : List ℕ = take (c.power-end.result - 0) did.new.own in
-    let is_own : own ≡ marks_of h.levels h.inputs f = marks_front h.levels h.inputs size f _ did.ensures.0.front c.power-end.result
-    c.power-end.ensures in
+    let is_own = marks_front h.levels h.inputs size f _ did.ensures.0.front c.power-end.result c.power-end.ensures in
     let long : length did.new.counts ≡ 2 ^ most_inputs = search rules in
-    let kept : CountsKnown own did.new.counts =
-    subst⁻¹ (λ (marks : List ℕ). CountsKnown marks did.new.counts) is_own did.ensures.0.kept in (
+    let kept = subst⁻¹ (λ (marks : List ℕ). CountsKnown marks did.new.counts) is_own did.ensures.0.kept in (
       size,
       le_of_eq (sym (given_count _ _ _ c.requires.0)),
       given_below _ _ _ c.requires.0,

@@ -12,9 +12,9 @@ pub overflow_add-at : goal.overflow_add-at
 overflow_add-at c =
     omega (arith, ap length c.requires, run_most (drop c.args.at c.args.s.now), length-drop c.args.at c.args.s.now, c)
 
-pub returns-in-Bad : goal.returns-in-Bad
-returns-in-Bad c = after_bad _ _ _ _ _ _ c.requires c.if-w-eq0.false _ c.in-Bad.is
+pub returns-in-Err : goal.returns-in-Err
+returns-in-Err c = after_bad _ _ _ _ _ _ c.requires c.if-w-eq0.false _ c.in-Err.is
 
-pub returns-in-Good : goal.returns-in-Good
-returns-in-Good c = after_good _ _ _ _ _ _ c.requires c.if-w-eq0.false _ c.separated_in.result
-    c.in-Good.is c.separated_in.ensures
+pub returns-in-Ok : goal.returns-in-Ok
+returns-in-Ok c = after_good _ _ _ _ _ _ c.requires c.if-w-eq0.false _ c.separated_in.result
+    c.in-Ok.is c.separated_in.ensures

@@ -7,6 +7,3 @@ use Rattle.fields.proofs.runs.spaces_end.Given as goal
 
 abbrev pub invariant-loop-end : goal.invariant-loop-end
 invariant-loop-end l = spaces_end l.s l.end ≡ spaces_end l.s l.at
-
-abbrev pub decreases-loop-end : goal.decreases-loop-end
-decreases-loop-end l = length l.s - l.end

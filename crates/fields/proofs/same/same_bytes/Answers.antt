@@ -1,24 +1,21 @@
--- `fields::same::same_bytes` meets its contract. The loop's invariant: the two are the same exactly when their rests are.
+-- `fields::same::same_bytes` meets its contract: the library's equality of slices is that of lists.
 -- Assumes nothing.
-use Rattle.laws.specs.Prelude.{◌∙◌, sym, refl, arith}
-use Rattle.laws.specs.Lists.Same.{same_length, same_next, same_differs, same_end}
+use Rattle.std.specs.Prelude.{◌≡◌, ◌&&◌, ◌∷◌}
+use Rattle.std.specs.Cmp.Lexicographic.{pointwise}
+use Rattle.laws.specs.Prelude.{ℕ, ◌∙◌, refl, Bool, true, false, List, [], eqb}
+use Rattle.rules.specs.Lists.{same}
 use Rattle.fields.proofs.same.same_bytes.Goals as goal
 
-pub returns-then-a-b : goal.returns-then-a-b
-returns-then-a-b c = sym (same_length _ _ c.if-a-b.true)
-
-pub loop-i-init : goal.loop-i-init
-loop-i-init c = (refl, c.if-a-b.false)
-
-pub returns-then-a-i : goal.returns-then-a-i
-returns-then-a-i c =
-    let at = c.loop-i in
-    sym (at.invariant.0 ∙ same_differs _ _ at.i (omega arith) (omega arith) c.if-a-i.true)
-
-pub loop-i-preserved : goal.loop-i-preserved
-loop-i-preserved c =
-    let at = c.loop-i in
-    (at.invariant.0 ∙ same_next _ _ at.i (omega arith) (omega arith) c.if-a-i.false, at.invariant.1)
+pointwise_same : (xs ys : List ℕ) → pointwise eqb xs ys ≡ same xs ys
+unfolding same
+pointwise_same [] [] = refl
+pointwise_same [] (y ∷ ys) = refl
+pointwise_same (x ∷ xs) [] = refl
+pointwise_same (x ∷ xs) (y ∷ ys) = go (eqb x y) (pointwise_same xs ys)
+  where
+    go : (t : Bool) → pointwise eqb xs ys ≡ same xs ys → (t && pointwise eqb xs ys) ≡ elim t [ true ↦ same xs ys | false ↦ false ]
+    go true e = e
+    go false e = refl
 
 pub returns : goal.returns
-returns c = sym (c.loop-i.invariant.0 ∙ same_end _ _ c.loop-i.i (omega arith) (omega arith))
+returns c = c.eq.ensures ∙ pointwise_same _ _

@@ -1,6 +1,6 @@
 -- `gate_tables::samples::input_wires` meets its contract. The loop's invariant: the rows of the first `i` inputs are written. Assumes nothing.
-use Rattle.std.specs.Prelude.{◌-◌, ◌^◌, ◌*◌, ◌≡◌}
-use Rattle.laws.specs.Prelude.{ℕ, ◌∙◌, sym, ap, refl, subst, mul_comm, arith, get_or, pow_mono}
+use Rattle.std.specs.Prelude.{◌^◌, ◌*◌, ◌≡◌}
+use Rattle.laws.specs.Prelude.{ℕ, ◌∙◌, sym, ap, refl, subst, mul_comm, arith, get_or}
 use Rattle.rules.specs.Nets.Filling.{input_groups}
 use Rattle.radix.specs.Weights.{weight_fits}
 use Rattle.trees.specs.Filling.Fillings.{inputs_grouped}
@@ -21,27 +21,14 @@ level_points-requires c =
       ),
     )
 
--- 2 to the power i is small
-pub overflow_cast-power : goal.overflow_cast-power
-overflow_cast-power c =
-    omega (arith, c.power-in-loop-i.ensures, pow_mono {i = c.loop-i.i} {j = 15} (omega (arith, c.loop-i-test.true, c.requires)))
-
-pub put_row-requires : goal.put_row-requires
-put_row-requires c = (
-  omega (arith, c.requires),
-  omega (arith, c.requires),
-  omega (arith, c.requires, c.loop-i.invariant.1, c.loop-i-test.true),
-)
-
 pub loop-i-preserved : goal.loop-i-preserved
 loop-i-preserved c =
     let group : get_or (input_groups c.args.n) c.loop-i.i 0 ≡ 2 ^ c.loop-i.i = (inputs_grouped c.args.n).1 c.loop-i.i c.loop-i-test.true in
     let l = c.loop-i in
     let a = c.args in
     let power = c.power-in-loop-i in (
-      omega arith,
-      c.put_row.ensures.long ∙ l.invariant.1,
-      λ f. rows_next a.m a.n c.requires.0 f (input_groups a.n) l.i l.wires (l.invariant.2 f) power.result a.m _ _ c.requires.1
+      c.put_row.ensures.long ∙ l.invariant.0,
+      λ f. rows_next a.m a.n c.requires.0 f (input_groups a.n) l.i l.wires (l.invariant.1 f) power.result a.m _ _ c.requires.1
           (power.ensures ∙ sym group)
           (input_wire a.m a.n c.requires.0 f l.i _ c.power.result c.loop-i-test.true group
           c.power.ensures _ _ c.level_points.ensures)
@@ -52,13 +39,4 @@ pub returns : goal.returns
 returns c =
     let l = c.loop-i in
     let a = c.args in
-    subst (λ (k : ℕ). (f : ℕ → ℕ) → WireRows a.m a.n f (input_groups a.n) k l.wires) (omega arith) l.invariant.2
-
-pub loop-i-init : goal.loop-i-init
-loop-i-init c = (omega arith, refl, λ f r h. absurd (omega arith))
-
-pub power-requires : goal.power-requires
-power-requires c = (c.requires.1, omega (arith, c.requires))
-
-pub power-requires-in-loop-i : goal.power-requires-in-loop-i
-power-requires-in-loop-i c = (omega arith, omega (arith, c.requires))
+    subst (λ (k : ℕ). (f : ℕ → ℕ) → WireRows a.m a.n f (input_groups a.n) k l.wires) (omega arith) l.invariant.1

@@ -5,8 +5,8 @@ use Rattle.glyphs.proofs.offsets.offsets_fit.Goals as goal
 
 pub returns-then-offsets-n : goal.returns-then-offsets-n
 unfolding offsets_fit
-returns-then-offsets-n c = rw (ne_eqb _ _ c.if-offsets-n.true)
+returns-then-offsets-n c = c.all_near.ensures ∙ rw (eq-eqb _ _ c.if-offsets-n.true)
 
-pub returns : goal.returns
+pub returns-else-offsets-n : goal.returns-else-offsets-n
 unfolding offsets_fit
-returns c = c.all_near.ensures ∙ rw (eq-eqb _ _ c.if-offsets-n.false)
+returns-else-offsets-n c = rw (ne_eqb _ _ c.if-offsets-n.false)

@@ -1,101 +1,49 @@
 -- `glyphs::offsets::starts_of` meets its contract. The loop's invariant: the first i inputs have their starts. Assumes nothing.
-use Rattle.std.specs.Prelude.{◌<◌, ◌≤◌, ◌+◌, ◌*◌, ◌≡◌}
-use Rattle.laws.specs.Prelude.{ℕ, ◌∙◌, ap, refl, ap₂, mul-le-mul, arith, length}
-use Rattle.rules.specs.Limits.{most_inputs}
-use Rattle.rules.specs.Calls.Glyphs.{across, down}
-use Rattle.glyphs.specs.Offsets.{element, most_span, reach, start_of, across_there, down_there, across_near, down_near, glyph_starts_more}
+use Rattle.std.specs.Prelude.{◌≤◌, ◌+◌, ◌*◌, ◌≡◌}
+use Rattle.laws.specs.Prelude.{ℕ, ◌∙◌, ap, refl, ap₂, mul-le-mul, arith}
+use Rattle.rules.specs.Calls.Glyphs.{most_side, across, down}
+use Rattle.glyphs.specs.Offsets.{near_read, most_span, reach, across_there, down_there, across_small, down_small, glyph_starts_more}
 use Rattle.glyphs.proofs.offsets.starts_of.Goals as goal
 
 pub loop-i-init : goal.loop-i-init
-loop-i-init c = (omega arith, record { room = refl; each = λ j h. absurd (omega arith) })
+loop-i-init c = record { room = refl; each = λ j h. absurd (omega arith) }
+
+pub bounds-offsets-i : goal.bounds-offsets-i
+bounds-offsets-i c = across_there _ _ c.requires.1 _ c.loop-i-test.true
+
+pub bounds-offsets-i-in-loop-i : goal.bounds-offsets-i-in-loop-i
+bounds-offsets-i-in-loop-i c = down_there _ _ c.requires.1 _ c.loop-i-test.true
+
+pub reach_of-down-requires : goal.reach_of-down-requires
+unfolding down
+reach_of-down-requires c =
+    let small = down_small _ _ c.requires.1 _ c.loop-i-test.true in
+    rw (near_read _ small) small
+
+pub reach_of-across-requires : goal.reach_of-across-requires
+unfolding across
+reach_of-across-requires c =
+    let small = across_small _ _ c.requires.1 _ c.loop-i-test.true in
+    rw (near_read _ small) small
 
 pub loop-i-preserved : goal.loop-i-preserved
 unfolding down across
 loop-i-preserved c =
-    let few : c.loop-i.i < most_inputs = omega (arith, c.requires.0, c.loop-i-test.true) in
-    let first : c.reach_of.result ≡ reach (down c.args.offsets.now c.loop-i.i) = c.reach_of.ensures ∙ ap reach (element _ c.down-1.given) in
-    let second : c.reach_of-in-loop-i.result ≡ reach (across c.args.offsets.now c.loop-i.i) = c.reach_of-in-loop-i.ensures ∙ ap reach (element _ c.across-1.given) in
-    let inv = c.loop-i.invariant in
     let a = c.args in
-    let value : (a.y + c.reach_of.result) * a.span + c.reach_of-in-loop-i.result ≡ start_of a.offsets.now a.span a.y c.loop-i.i =
-    ap₂ (λ (d x : ℕ). (a.y + d) * a.span + x) first second in (
-      omega (arith, c.loop-i-test.true),
-      glyph_starts_more a.offsets.now a.span a.y c.loop-i.i c.loop-i.starts inv.1 (omega (arith, few)) _ value,
-    )
+    let first : c.reach_of-down.result ≡ reach (down a.offsets.now c.loop-i.i) =
+    c.reach_of-down.ensures.is ∙ ap reach (near_read _ (down_small _ _ c.requires.1 _ c.loop-i-test.true)) in
+    let second : c.reach_of-across.result ≡ reach (across a.offsets.now c.loop-i.i) =
+    c.reach_of-across.ensures.is ∙ ap reach (near_read _ (across_small _ _ c.requires.1 _ c.loop-i-test.true)) in
+    glyph_starts_more a.offsets.now a.span a.y c.loop-i.i c.loop-i.starts c.loop-i.invariant (omega arith) _
+    (ap₂ (λ (d x : ℕ). (a.y + d) * a.span + x) first second)
 
-pub returns : goal.returns
-returns c = λ i h. c.loop-i.invariant.1.each i (omega (arith, c.loop-i-test.false))
-
-pub overflow_mul-across : goal.overflow_mul-across
-overflow_mul-across c =
-    let few : c.loop-i.i < most_inputs = omega (arith, c.requires.0, c.loop-i-test.true) in
-    omega (arith, few)
-
-pub bounds-offsets-i : goal.bounds-offsets-i
-bounds-offsets-i c =
-    let there : (2 * c.loop-i.i < length c.args.offsets.now) × (2 * c.loop-i.i + 1 < length c.args.offsets.now) = (across_there _ _ c.requires.1 _ c.loop-i-test.true, down_there _ _ c.requires.1 _ c.loop-i-test.true) in
-    there.0
-
-pub overflow_mul-down : goal.overflow_mul-down
-overflow_mul-down c =
-    let few : c.loop-i.i < most_inputs = omega (arith, c.requires.0, c.loop-i-test.true) in
-    omega (arith, few)
-
-pub overflow_add-down : goal.overflow_add-down
-overflow_add-down c =
-    let few : c.loop-i.i < most_inputs = omega (arith, c.requires.0, c.loop-i-test.true) in
-    omega (arith, few)
-
-pub bounds-offsets-i-in-loop-i : goal.bounds-offsets-i-in-loop-i
-bounds-offsets-i-in-loop-i c =
-    let there : (2 * c.loop-i.i < length c.args.offsets.now) × (2 * c.loop-i.i + 1 < length c.args.offsets.now) = (across_there _ _ c.requires.1 _ c.loop-i-test.true, down_there _ _ c.requires.1 _ c.loop-i-test.true) in
-    there.1
-
-pub overflow_add-starts : goal.overflow_add-starts
-unfolding down
-overflow_add-starts c =
-    let first : c.reach_of.result ≡ reach (down c.args.offsets.now c.loop-i.i) = c.reach_of.ensures ∙ ap reach (element _ c.down-1.given) in
-    let near : (reach (across c.args.offsets.now c.loop-i.i) ≤ 4) × (reach (down c.args.offsets.now c.loop-i.i) ≤ 4) = (across_near _ _ c.requires.1 _ c.loop-i-test.true, down_near _ _ c.requires.1 _ c.loop-i-test.true) in
-    let small : (c.args.y + c.reach_of.result ≤ 68) × ((c.args.y + c.reach_of.result) * c.args.span ≤ 68 * most_span) =
-    let low : c.args.y + c.reach_of.result ≤ 68 = omega (arith, first, near.1, c.requires.3) in
-    (low, mul-le-mul low c.requires.2) in
-    omega (arith, small.0)
+-- a start is in a frame of most_side + 4 rows
+start_small : (y d span : ℕ) → y ≤ most_side → d ≤ 4 → span ≤ most_span → (y + d) * span ≤ 68 * most_span
+start_small y d span few near wide = let low : y + d ≤ 68 = omega arith in mul-le-mul low wide
 
 pub overflow_mul-starts : goal.overflow_mul-starts
-unfolding down
-overflow_mul-starts c =
-    let first : c.reach_of.result ≡ reach (down c.args.offsets.now c.loop-i.i) = c.reach_of.ensures ∙ ap reach (element _ c.down-1.given) in
-    let near : (reach (across c.args.offsets.now c.loop-i.i) ≤ 4) × (reach (down c.args.offsets.now c.loop-i.i) ≤ 4) = (across_near _ _ c.requires.1 _ c.loop-i-test.true, down_near _ _ c.requires.1 _ c.loop-i-test.true) in
-    let small : (c.args.y + c.reach_of.result ≤ 68) × ((c.args.y + c.reach_of.result) * c.args.span ≤ 68 * most_span) =
-    let low : c.args.y + c.reach_of.result ≤ 68 = omega (arith, first, near.1, c.requires.3) in
-    (low, mul-le-mul low c.requires.2) in
-    omega (arith, small.1)
+overflow_mul-starts c = omega (arith, start_small _ _ _ c.requires.3 c.reach_of-down.ensures.small c.requires.2)
 
 pub overflow_add-starts-in-loop-i : goal.overflow_add-starts-in-loop-i
-unfolding across down
 overflow_add-starts-in-loop-i c =
-    let near : (reach (across c.args.offsets.now c.loop-i.i) ≤ 4) × (reach (down c.args.offsets.now c.loop-i.i) ≤ 4) = (across_near _ _ c.requires.1 _ c.loop-i-test.true, down_near _ _ c.requires.1 _ c.loop-i-test.true) in
-    let second : c.reach_of-in-loop-i.result ≡ reach (across c.args.offsets.now c.loop-i.i) = c.reach_of-in-loop-i.ensures ∙ ap reach (element _ c.across-1.given) in
-    let first : c.reach_of.result ≡ reach (down c.args.offsets.now c.loop-i.i) = c.reach_of.ensures ∙ ap reach (element _ c.down-1.given) in
-    let small : (c.args.y + c.reach_of.result ≤ 68) × ((c.args.y + c.reach_of.result) * c.args.span ≤ 68 * most_span) =
-    let low : c.args.y + c.reach_of.result ≤ 68 = omega (arith, first, near.1, c.requires.3) in
-    (low, mul-le-mul low c.requires.2) in
-    omega (arith, small.1, second, near.0)
-
-pub offset_bounds-starts-i : goal.offset_bounds-starts-i
-offset_bounds-starts-i c =
-    let few : c.loop-i.i < most_inputs = omega (arith, c.requires.0, c.loop-i-test.true) in
-    omega (arith, few)
-
-pub bounds-starts-i : goal.bounds-starts-i
-bounds-starts-i c =
-    let few : c.loop-i.i < most_inputs = omega (arith, c.requires.0, c.loop-i-test.true) in
-    omega (arith, few)
-
-pub overflow_add-i : goal.overflow_add-i
-overflow_add-i c =
-    let few : c.loop-i.i < most_inputs = omega (arith, c.requires.0, c.loop-i-test.true) in
-    omega (arith, few)
-
-pub loop-i-smaller : goal.loop-i-smaller
-loop-i-smaller c = omega (arith, c.loop-i-test.true)
+    omega (arith, start_small _ _ _ c.requires.3 c.reach_of-down.ensures.small c.requires.2, c.reach_of-across.ensures.small)

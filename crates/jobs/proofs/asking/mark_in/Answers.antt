@@ -6,10 +6,8 @@ use Rattle.jobs.proofs.asking.mark_in.Goals as goal
 
 pub mark_under-requires : goal.mark_under-requires
 unfolding space
-mark_under-requires c =
-    (fronted _ _ c.header_lines-read.ensures _ _ c.in-On.is, c.requires)
+mark_under-requires c = (fronted _ _ c.header_lines.ensures _ c.in-Ok.is, c.requires)
 
-pub returns-in-Back : goal.returns-in-Back
+pub returns-in-Err : goal.returns-in-Err
 unfolding space
-returns-in-Back c =
-    λ cells. ask_none _ _ _ _ (not_fronted _ _ c.header_lines-read.ensures _ _ c.in-Back.is) cells
+returns-in-Err c = λ cells. ask_none _ _ _ _ (not_fronted _ _ c.header_lines.ensures _ c.in-Err.is) cells

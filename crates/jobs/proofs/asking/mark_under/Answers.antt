@@ -3,16 +3,18 @@ use native.Mathlib.Omega.{arith}
 use Rattle.jobs.specs.Forms.{front_size, front_groups}
 use Rattle.jobs.specs.Asking.{asked_empty, asked_over, not_reached_answer, reached_answer}
 use Rattle.jobs.proofs.asking.mark_under.Goals as goal
+use Rattle.jobs.proofs.asking.mark_under.Goals.{then-group-eq0-via-then-group-eq0, then-group-eq0-via-else-group-eq0+then-power-group}
 
 pub returns-then-group-eq0 : goal.returns-then-group-eq0
-returns-then-group-eq0 c = λ cells. asked_empty _ _ c.requires.0 _ _ _ cells c.if-group-eq0.true
+returns-then-group-eq0 c =
+    elim c.then-group-eq0.branch [
+      | then-group-eq0-via-then-group-eq0 w ↦ λ cells. asked_empty _ _ c.requires.0 _ _ _ cells w.if-group-eq0.true
+      | then-group-eq0-via-else-group-eq0+then-power-group w ↦
+          λ cells. asked_over _ _ c.requires.0 _ _ _ cells (omega (arith, w.power.ensures, w.if-power-group.true))
+    ]
 
 pub power-requires : goal.power-requires
 power-requires c = (omega arith, omega (arith, (front_size _ _ c.requires.0).inputs_most))
-
-pub returns-then-power-group : goal.returns-then-power-group
-returns-then-power-group c =
-    λ cells. asked_over _ _ c.requires.0 _ _ _ cells (omega (arith, c.power.ensures, c.if-power-group.true))
 
 pub returns-then-passed-group : goal.returns-then-passed-group
 returns-then-passed-group c =

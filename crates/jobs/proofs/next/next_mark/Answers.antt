@@ -6,10 +6,8 @@ use Rattle.jobs.proofs.next.next_mark.Goals as goal
 
 pub next_under-requires : goal.next_under-requires
 unfolding space
-next_under-requires c =
-    (fronted _ _ c.header_lines-read.ensures _ _ c.in-On.is, c.requires.0, c.requires.1)
+next_under-requires c = (fronted _ _ c.header_lines.ensures _ c.in-Ok.is, c.requires.0, c.requires.1)
 
-pub returns-in-Back : goal.returns-in-Back
+pub returns-in-Err : goal.returns-in-Err
 unfolding space
-returns-in-Back c =
-    next_none _ _ _ _ (not_fronted _ _ c.header_lines-read.ensures _ _ c.in-Back.is _)
+returns-in-Err c = next_none _ _ _ _ (not_fronted _ _ c.header_lines.ensures _ c.in-Err.is _)

@@ -7,23 +7,22 @@ use Rattle.jobs.proofs.opening.open.Goals as goal
 
 pub power-count-requires : goal.power-count-requires
 power-count-requires c =
-    let size = held_size _ _ (c.read_full-read.ensures.held c.in-Accepted.is).header in
+    let size = held_size _ _ (c.read_full.ensures.held _ c.in-Ok.is).header in
     (omega (arith, size.levels_most), omega (arith, size.inputs_most))
 
 pub slice_bounds-new_job-end : goal.slice_bounds-new_job-end
 slice_bounds-new_job-end c =
-    let read = c.read_full-read in
-    omega (arith, c.power-count.ensures, (held_size _ _ (read.ensures.held c.in-Accepted.is).header).cells_most, read.auto)
+    omega (arith, c.power-count.ensures, (held_size _ _ (c.read_full.ensures.held _ c.in-Ok.is).header).cells_most, c.read_full.auto)
 
 pub new_job-requires : goal.new_job-requires
 new_job-requires c =
-    inks_given _ _ _ _ c.power-count.ensures (full_taken _ _ _ c.read_full-read.ensures c.in-Accepted.is)
+    inks_given _ _ _ _ c.power-count.ensures (full_taken _ _ _ c.read_full.ensures _ c.in-Ok.is)
 
-pub returns-in-Refused : goal.returns-in-Refused
-returns-in-Refused c =
-    opened_none _ _ c.no_job.ensures _ _ (read_full_refused _ _ _ c.read_full-read.ensures _ _ c.in-Refused.is)
+pub returns-in-Err : goal.returns-in-Err
+returns-in-Err c =
+    opened_none _ _ c.no_job.ensures _ (read_full_refused _ _ _ c.read_full.ensures _ c.in-Err.is)
 
-pub returns-in-Accepted : goal.returns-in-Accepted
-returns-in-Accepted c =
-    let taken = full_taken _ _ _ c.read_full-read.ensures c.in-Accepted.is in
+pub returns-in-Ok : goal.returns-in-Ok
+returns-in-Ok c =
+    let taken = full_taken _ _ _ c.read_full.ensures _ c.in-Ok.is in
     opened_new _ _ _ c.new_job.ensures (taken.reads ∙ ap accepted (sym (inks_table _ _ _ _ c.power-count.ensures)))

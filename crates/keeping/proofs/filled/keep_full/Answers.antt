@@ -6,10 +6,6 @@ use Rattle.keeping.proofs.filled.keep_full.Goals as goal
 pub returns-then-cells-inks : goal.returns-then-cells-inks
 returns-then-cells-inks c = full_short _ _ _ _ c.if-cells-inks.true
 
-pub keep_filled-requires : goal.keep_filled-requires
-keep_filled-requires c =
-    record { taken = c.requires.0; given = c.requires.1; long = c.if-cells-inks.false }
-
 pub returns : goal.returns
 returns c =
     c.keep_filled.ensures ∙ full_long _ _ _ _ c.if-cells-inks.false

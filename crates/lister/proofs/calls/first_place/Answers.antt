@@ -1,10 +1,7 @@
 -- `first_place` meets its contract.
 -- Assumes nothing.
-use Rattle.lister.proofs.Openings.{opened_at, not_opened_at}
+use Rattle.lister.proofs.Openings.{starts_at}
 use Rattle.lister.proofs.calls.first_place.Goals as goal
 
-pub returns-in-At : goal.returns-in-At
-returns-in-At c = (opened_at _ _ c.open.ensures _ c.in-At.is).2
-
-pub returns-in-Refused : goal.returns-in-Refused
-returns-in-Refused c = not_opened_at _ _ c.open.ensures _ _ c.in-Refused.is
+pub returns : goal.returns
+returns c = starts_at _ _ c.open.ensures _ c.unwrap_or.ensures

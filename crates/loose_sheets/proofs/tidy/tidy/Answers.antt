@@ -7,6 +7,6 @@ use Rattle.loose_sheets.proofs.tidy.tidy.Goals as goal
 
 pub tidy_accepted-requires : goal.tidy_accepted-requires
 tidy_accepted-requires c =
-    let did = c.read_table-read in
-    let is = c.in-Accepted.is in
-    (strict_taken _ _ _ did.ensures is (omega (arith, did.auto.cells, length-replicate {A = ℕ} most_cells 0)), strict_itself _ _ _ did.ensures is)
+    let did = c.read_table in
+    let is = c.in-Ok.is in
+    (strict_taken _ _ _ did.ensures _ is (omega (arith, did.auto, length-replicate {A = ℕ} most_cells 0)), strict_itself _ _ _ did.ensures _ is)

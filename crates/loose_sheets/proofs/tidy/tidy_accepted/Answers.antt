@@ -1,6 +1,6 @@
 -- `loose_sheets::tidy::tidy_accepted` meets its contract: the cells, then the sheet.
 -- Assumes nothing.
-use Rattle.laws.specs.Prelude.{arith}
+use Rattle.laws.specs.Prelude.{sym, arith}
 use Rattle.accepted.specs.Taken.{held_size}
 use Rattle.loose_sheets.specs.Tidying.{loose_count_most, loose_front_length, front_inside, front_itself, cells_short, cells_written}
 use Rattle.loose_sheets.proofs.tidy.tidy_accepted.Goals as goal
@@ -14,9 +14,7 @@ pub returns-then-cells-count : goal.returns-then-cells-count
 returns-then-cells-count c = cells_short _ _ _ c.requires.0 _ c.power-count.ensures _ _ c.if-cells-count.true
 
 pub slice_bounds-table-end : goal.slice_bounds-table-end
-slice_bounds-table-end c =
-    let taken = c.requires.0 in
-    omega (arith, loose_count_most _ _ _ taken _ c.power-count.ensures, taken.room)
+slice_bounds-table-end c = sym (loose_front_length _ _ _ c.requires.0 _ c.power-count.ensures)
 
 pub write_sheet-requires : goal.write_sheet-requires
 write_sheet-requires c =

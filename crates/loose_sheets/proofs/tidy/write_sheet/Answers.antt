@@ -1,28 +1,15 @@
 -- `loose_sheets::tidy::write_sheet` meets its contract: the sheet's length, then the sheet, copied or printed.
 -- Assumes nothing.
-use Rattle.laws.specs.Prelude.{arith}
-use Rattle.loose_sheets.specs.Tidying.{loose_output_short, loose_output_long, loose_output_written, itself_fits, itself_written}
+use Rattle.loose_sheets.specs.Tidying.{loose_output_short, loose_output_written, itself_written}
 use Rattle.loose_sheets.proofs.tidy.write_sheet.Goals as goal
 
 pub returns-then-out-need : goal.returns-then-out-need
 returns-then-out-need c = loose_output_short _ _ _ c.requires.0 _ c.table_length-need.ensures _ c.if-out-need.true
 
-pub copy-requires : goal.copy-requires
-copy-requires c =
-    omega (
-      arith,
-      itself_fits _ _ _ c.requires.0 _ c.table_length-need.ensures c.args.out.now c.if-out-need.false
-          (c.requires.2 c.if-strict.true),
-    )
-
 pub returns-then-strict : goal.returns-then-strict
 returns-then-strict c =
     itself_written _ _ _ c.requires.0 _ c.table_length-need.ensures c.args.out.now c.if-out-need.false
     (c.requires.2 c.if-strict.true) _ _ c.copy.ensures
-
-pub print_table-requires : goal.print_table-requires
-print_table-requires c =
-    (c.requires.0, loose_output_long _ _ _ c.requires.0 _ c.table_length-need.ensures c.args.out.now c.if-out-need.false)
 
 pub returns : goal.returns
 returns c =

@@ -1,7 +1,7 @@
 -- `marks::all_groups::mark_and_store` meets its contract. Assumes nothing.
 use Rattle.laws.specs.Prelude.{arith}
 use Rattle.laws.specs.Numbers.Sizes.{sized}
-use Rattle.marks.specs.Marking.{marked_small, marked_into_lem}
+use Rattle.marks.specs.Marking.{marked_small}
 use Rattle.marks.proofs.all_groups.mark_and_store.Goals as goal
 
 pub store-requires : goal.store-requires
@@ -13,8 +13,3 @@ store-requires c =
       marked_small c.mark_all-marked.ensures.0 (omega (arith, fit.levels_least)),
       c.requires.2,
     )
-
-pub returns : goal.returns
-returns c =
-    let did = c.mark_all-marked.ensures in
-    (marked_into_lem did.0 c.store.ensures, did.1)

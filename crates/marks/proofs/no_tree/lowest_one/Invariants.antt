@@ -1,11 +1,7 @@
--- `marks::no_tree::lowest_one` meets its contract. The loop's invariant: the search from the current group on gives the same
--- result. Assumes nothing.
-use Rattle.std.specs.Prelude.{◌≤◌, ◌-◌, ◌≡◌}
+-- `marks::no_tree::lowest_one` meets its contract. The loop's invariant: the search from the current group on gives the same result. Assumes nothing.
+use Rattle.std.specs.Prelude.{◌≡◌}
 use Rattle.marks.specs.NoTreePlace.{lowest}
 use Rattle.marks.proofs.no_tree.lowest_one.Given as goal
 
 abbrev pub invariant-loop-g : goal.invariant-loop-g
-invariant-loop-g l = (l.g ≤ l.end) × (lowest l.n l.end l.marks l.k l.g ≡ lowest l.n l.end l.marks l.k 0)
-
-abbrev pub decreases-loop-g : goal.decreases-loop-g
-decreases-loop-g l = l.end - l.g
+invariant-loop-g l = lowest l.n l.end l.marks l.k l.g ≡ lowest l.n l.end l.marks l.k 0

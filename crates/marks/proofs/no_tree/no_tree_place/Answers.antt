@@ -1,31 +1,18 @@
--- `marks::no_tree::no_tree_place` meets its contract. The loop's invariant: the search from the current size on gives the same
--- result. Assumes nothing.
-use Rattle.std.specs.Prelude.{◌-◌}
-use Rattle.laws.specs.Prelude.{◌∙◌, sym, refl, arith}
+-- `marks::no_tree::no_tree_place` meets its contract: the lowest group of the current size, or the search goes on. Assumes nothing.
+use Rattle.laws.specs.Prelude.{◌∙◌, ◌+◌, sym, arith}
 use Rattle.marks.specs.NoTreePlace.{place_here, mark_place_next, place_none, place_found, place_missing}
 use Rattle.marks.proofs.no_tree.no_tree_place.Goals as goal
 
-pub loop-k-init : goal.loop-k-init
-loop-k-init c = (omega arith, refl)
-
-pub lowest_one-g-requires : goal.lowest_one-g-requires
-lowest_one-g-requires c =
-    omega (arith, c.power-end.ensures, c.requires.1)
-
-pub returns-then-g-end : goal.returns-then-g-end
-returns-then-g-end c =
-    place_found _ _ _
-    (sym c.loop-k.invariant.1
-    ∙ place_here _ _ _ c.loop-k-test.true _ _ c.power-end.ensures c.lowest_one-g.ensures
-    c.if-g-end.true)
+pub returns-in-Some : goal.returns-in-Some
+returns-in-Some c =
+    place_found _ _ _ (sym c.loop-k.invariant ∙ place_here _ _ c.loop-k.k (omega arith) _ c.power-end.ensures c.in-Some.ensures)
 
 pub loop-k-preserved : goal.loop-k-preserved
-loop-k-preserved c = (
-  omega arith,
-  mark_place_next _ _ _ c.loop-k-test.true _ _ c.power-end.ensures c.lowest_one-g.ensures
-      c.if-g-end.false
-      ∙ c.loop-k.invariant.1,
-)
+loop-k-preserved c =
+    mark_place_next _ _ c.loop-k.k (omega arith) _ c.power-end.ensures c.in_default.ensures ∙ c.loop-k.invariant
 
-pub returns : goal.returns
-returns c = place_missing _ _ (sym c.loop-k.invariant.1 ∙ place_none _ _ _ c.loop-k-test.false)
+pub returns-in_default : goal.returns-in_default
+returns-in_default c =
+    let k = c.loop-k.k in
+    place_missing _ _
+    (sym c.loop-k.invariant ∙ sym (mark_place_next _ _ k (omega arith) _ c.power-end.ensures c.in_default.ensures) ∙ place_none _ _ (k + 1) (omega arith))

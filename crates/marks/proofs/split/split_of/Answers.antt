@@ -1,6 +1,5 @@
 -- `marks::split::split_of` meets its contract. The loop's invariant: the search from the current part on gives the same result.
 -- Assumes nothing.
-use Rattle.std.specs.Prelude.{◌<◌, ◌+◌, ◌-◌}
 use Rattle.laws.specs.Prelude.{◌∙◌, sym, arith}
 use Rattle.rules.specs.Nets.Settled.{split_of}
 use Rattle.radix.specs.Widths.{most_members}
@@ -28,9 +27,6 @@ pub next_part-part-requires : goal.next_part-part-requires
 next_part-part-requires c =
     (omega (arith, c.without_first-rest.ensures most_members c.requires.1), c.loop-part-test.true, c.loop-part.invariant.is_part)
 
-pub loop-part-smaller : goal.loop-part-smaller
-loop-part-smaller c = omega (arith, c.next_part-part.ensures.above, c.loop-part-test.true)
-
 pub loop-part-preserved : goal.loop-part-preserved
 loop-part-preserved c =
     let l = c.loop-part in
@@ -46,29 +42,10 @@ returns c =
     sought_all _ _ c.args.g w.result (settled_looked c.args.marks.now c.args.g) c.requires.0 w.ensures l.part l.invariant
     c.loop-part-test.false
 
-pub without_first-rest-requires : goal.without_first-rest-requires
-without_first-rest-requires c = c.requires.0
-
-pub overflow_add-first : goal.overflow_add-first
-overflow_add-first c =
-    let there : (0 < (c.args.g - c.without_first-rest.result) + c.loop-part.part) × ((c.args.g - c.without_first-rest.result) + c.loop-part.part < c.args.g) =
-    let a = part_looked_at _ _ c.args.g c.without_first-rest.result (settled_looked c.args.marks.now c.args.g) c.requires.0
-    c.without_first-rest.ensures c.loop-part.part c.loop-part.invariant c.loop-part-test.true most_members c.requires.1 in
-    (a.0, a.1) in
-    omega (arith, there)
-
 pub both_two-requires : goal.both_two-requires
 both_two-requires c =
-    let there : (0 < (c.args.g - c.without_first-rest.result) + c.loop-part.part) × ((c.args.g - c.without_first-rest.result) + c.loop-part.part < c.args.g) =
-    let a = part_looked_at _ _ c.args.g c.without_first-rest.result (settled_looked c.args.marks.now c.args.g) c.requires.0
-    c.without_first-rest.ensures c.loop-part.part c.loop-part.invariant c.loop-part-test.true most_members c.requires.1 in
-    (a.0, a.1) in
-    (there.0, there.1, c.requires.2)
-
-pub overflow_add-result : goal.overflow_add-result
-overflow_add-result c =
-    let there : (0 < (c.args.g - c.without_first-rest.result) + c.loop-part.part) × ((c.args.g - c.without_first-rest.result) + c.loop-part.part < c.args.g) =
-    let a = part_looked_at _ _ c.args.g c.without_first-rest.result (settled_looked c.args.marks.now c.args.g) c.requires.0
-    c.without_first-rest.ensures c.loop-part.part c.loop-part.invariant c.loop-part-test.true most_members c.requires.1 in
-    (a.0, a.1) in
-    omega (arith, there)
+    let l = c.loop-part in
+    let pre = c.requires in
+    let at = part_looked_at _ _ c.args.g c.without_first-rest.result (settled_looked c.args.marks.now c.args.g) pre.0 c.without_first-rest.ensures l.part
+    l.invariant c.loop-part-test.true most_members pre.1 in
+    (at.0, at.1, pre.2)

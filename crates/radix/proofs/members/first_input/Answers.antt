@@ -15,7 +15,7 @@ here n g i t h e = ap (λ (j : ℕ). member j g) (range_at 0 n i 0 h ∙ zero-ad
 
 pub loop-i-init : goal.loop-i-init
 unfolding first_input
-loop-i-init c = (omega arith, zero-add _)
+loop-i-init c = zero-add _
 
 pub returns-then-member_of : goal.returns-then-member_of
 returns-then-member_of c =
@@ -24,22 +24,20 @@ returns-then-member_of c =
     let i< = c.loop-i-test.true in
     sym (place_stop (λ j. member j a.g) (range 0 a.n) l.i (rw range_length i<)
     (here a.n a.g l.i _ i< c.member_of.ensures ∙ c.if-member_of.true))
-    ∙ l.invariant.1
+    ∙ l.invariant
 
 pub loop-i-preserved : goal.loop-i-preserved
 loop-i-preserved c =
     let a = c.args in
     let l = c.loop-i in
-    let i< = c.loop-i-test.true in (
-      omega arith,
-      place_next (λ j. member j a.g) (range 0 a.n) l.i (rw range_length i<)
-          (here a.n a.g l.i _ i< c.member_of.ensures ∙ c.if-member_of.false)
-          ∙ l.invariant.1,
-    )
+    let i< = c.loop-i-test.true in
+    place_next (λ j. member j a.g) (range 0 a.n) l.i (rw range_length i<)
+    (here a.n a.g l.i _ i< c.member_of.ensures ∙ c.if-member_of.false)
+    ∙ l.invariant
 
 pub returns : goal.returns
 returns c =
     let a = c.args in
     let l = c.loop-i in
     let end : a.n ≡ l.i = omega arith in
-    end ∙ sym (place_end (λ j. member j a.g) (range 0 a.n) l.i (rw range_length c.loop-i-test.false)) ∙ l.invariant.1
+    end ∙ sym (place_end (λ j. member j a.g) (range 0 a.n) l.i (rw range_length c.loop-i-test.false)) ∙ l.invariant

@@ -5,7 +5,4 @@ use Rattle.rules.specs.Groups.Groups.{size}
 use Rattle.radix.proofs.members.members.Given as goal
 
 abbrev pub invariant-loop-i : goal.invariant-loop-i
-invariant-loop-i l = (l.i ≤ l.n) × (l.count ≤ l.i) × (l.count + size (l.n - l.i) l.rest ≡ size l.n l.g)
-
-abbrev pub decreases-loop-i : goal.decreases-loop-i
-decreases-loop-i l = l.n - l.i
+invariant-loop-i l = (l.count ≤ l._i) × (l.count + size (l.n - l._i) l.rest ≡ size l.n l.g)

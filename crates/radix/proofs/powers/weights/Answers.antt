@@ -1,8 +1,8 @@
 -- `radix::powers::weights` meets its contract. The loop's invariant: the inputs from `i` on have their weights, and `w` is the next. Assumes
 -- nothing.
 use Rattle.std.specs.Prelude.{◌<◌, ◌≤◌, ◌-◌, ◌^◌, ◌*◌, ◌≡◌}
-use Rattle.laws.specs.Prelude.{ℕ, suc, ◌∙◌, sym, ap, refl, subst⁻¹, List, pow-suc, pow-zero, pow-le-pow_right, ℕ_discrete}
-use Rattle.laws.specs.Prelude.{arith, length, get_or, set, length-set, get_or-set_same, get_or-set_other}
+use Rattle.laws.specs.Prelude.{ℕ, suc, ◌∙◌, sym, ap, subst⁻¹, List, pow-suc, pow-le-pow_right, ℕ_discrete}
+use Rattle.laws.specs.Prelude.{arith, length, get_or, set, get_or-set_same, get_or-set_other}
 use Rattle.radix.proofs.powers.weights.Goals as goal
 
 -- the next weight
@@ -25,16 +25,11 @@ turn m n i w out some room e known j low high (yes here) =
     ∙ ap (λ (k : ℕ). m ^ k) (omega arith)
 turn m n i w out some room e known j low high (no other) = get_or-set_other out (i - 1) j w 0 other ∙ known j (omega arith) high
 
-pub loop-i-init : goal.loop-i-init
-loop-i-init c =
-    let none : c.args.n - c.args.n ≡ 0 = omega arith in
-    (omega arith, refl, sym (ap (λ (k : ℕ). c.args.m ^ k) none ∙ pow-zero c.args.m), λ j low high. absurd (omega arith))
-
 pub overflow_cast-out : goal.overflow_cast-out
 overflow_cast-out c =
     let a = c.args in
     let l = c.loop-i in
-    omega (arith, weight_below a.m a.n l.i l.w c.requires.0 l.invariant.2)
+    omega (arith, weight_below a.m a.n l.i l.w c.requires.0 l.invariant.0)
 
 pub overflow_mul-w : goal.overflow_mul-w
 overflow_mul-w c =
@@ -43,18 +38,13 @@ overflow_mul-w c =
     omega (
       arith,
       weight_below a.m a.n (l.i - 1) (l.w * a.m) c.requires.0
-          (one_more a.m a.n l.i l.w (omega arith) l.invariant.0 l.invariant.2),
+          (one_more a.m a.n l.i l.w (omega arith) (omega arith) l.invariant.0),
     )
 
 pub loop-i-preserved : goal.loop-i-preserved
 loop-i-preserved c =
     let a = c.args in
     let l = c.loop-i in (
-      omega arith,
-      length-set l.out (l.i - 1) l.w ∙ l.invariant.1,
-      one_more a.m a.n l.i l.w (omega arith) l.invariant.0 l.invariant.2,
-      λ j low high. turn a.m a.n l.i l.w l.out (omega arith) (omega arith) l.invariant.2 l.invariant.3 j low high (ℕ_discrete j (l.i - 1)),
+      one_more a.m a.n l.i l.w (omega arith) (omega arith) l.invariant.0,
+      λ j low high. turn a.m a.n l.i l.w l.out (omega arith) (omega arith) l.invariant.0 l.invariant.1 j low high (ℕ_discrete j (l.i - 1)),
     )
-
-pub returns : goal.returns
-returns c = λ i i<. c.loop-i.invariant.3 i (omega arith) i<

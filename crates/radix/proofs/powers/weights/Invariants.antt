@@ -2,11 +2,8 @@
 -- nothing.
 use Rattle.std.specs.Prelude.{◌<◌, ◌≤◌, ◌-◌, ◌^◌, ◌≡◌}
 use Rattle.laws.specs.Prelude.{ℕ}
-use Rattle.laws.specs.Prelude.{length, get_or}
+use Rattle.laws.specs.Prelude.{get_or}
 use Rattle.radix.proofs.powers.weights.Given as goal
 
 abbrev pub invariant-loop-i : goal.invariant-loop-i
-invariant-loop-i l = (l.i ≤ l.n) × (length l.out ≡ length l.initial.out) × (l.w ≡ l.m ^ (l.n - l.i)) × ((j : ℕ) → l.i ≤ j → j < l.n → get_or l.out j 0 ≡ l.m ^ (l.n - 1 - j))
-
-abbrev pub decreases-loop-i : goal.decreases-loop-i
-decreases-loop-i l = l.i
+invariant-loop-i l = (l.w ≡ l.m ^ (l.n - l.i)) × ((j : ℕ) → l.i ≤ j → j < l.n → get_or l.out j 0 ≡ l.m ^ (l.n - 1 - j))

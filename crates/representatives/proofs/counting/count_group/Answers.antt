@@ -1,21 +1,18 @@
 -- `representatives::counting::count_group` meets its contract: rows from a group inside it, columns from a group of other inputs. Assumes nothing.
-use Rattle.std.specs.Prelude.{◌<◌, ◌-◌, ◌^◌, ◌≡◌}
-use Rattle.laws.specs.Prelude.{true, arith, get_or}
-use Rattle.rules.specs.Groups.Marks.{inside}
+use Rattle.laws.specs.Prelude.{arith}
 use Rattle.rules.specs.Calls.Answers.{ink_in}
-use Rattle.rules.specs.Nets.Trees.{Apart}
 use Rattle.radix.specs.Parts.{part_inside, part_apart}
 use Rattle.representatives.specs.Counting.{front_listed}
 use Rattle.representatives.specs.Working.{step_level, step_own_places, step_covering, step_cover, step_before_counted, step_run, step_columns}
-use Rattle.representatives.specs.Working.{step_columns_listed, step_judged}
+use Rattle.representatives.specs.Working.{step_columns_listed}
 use Rattle.representatives.proofs.counting.count_group.Goals as goal
 
 pub cover-rows-requires : goal.cover-rows-requires
 cover-rows-requires c =
-    let is_part : inside c.args.n c.args.from c.args.g ≡ true = part_inside c.args.n c.args.from c.args.g c.requires.4 in
-    let is_free : Apart c.args.n c.args.from c.args.idle = part_apart c.args.n c.args.from c.args.g c.args.idle is_part c.requires.1.apart in
+    let a = c.args in
     let pre = c.requires in
-    step_covering pre.0 pre.1 pre.3 is_free pre.5 is_part (omega arith) pre.1.group pre.0.for_xs
+    let is_part = part_inside a.n a.from a.g pre.4 in
+    step_covering pre.0 pre.1 pre.3 (part_apart a.n a.from a.g a.idle is_part pre.1.apart) pre.5 is_part (omega arith) pre.1.group pre.0.for_xs
 
 pub few_inside-below-requires : goal.few_inside-below-requires
 few_inside-below-requires c =
@@ -29,24 +26,18 @@ cover-heads-requires c =
 
 pub offset_bounds-weights-first_of : goal.offset_bounds-weights-first_of
 offset_bounds-weights-first_of c =
-    let run_of : let a = c.args in (0 < c.first_of.result) × (c.first_of.result - 1 < a.n) × (get_or a.weights.now (c.first_of.result - 1) 0 ≡ a.m ^ (a.n - c.requires.1.near.end)) = let pre = c.requires in step_run pre.0 pre.1 pre.2 c.first_of.ensures in
-    omega (arith, run_of.1, c.requires.0.inputs)
+    let pre = c.requires in omega (arith, (step_run pre.0 pre.1 pre.2 c.first_of.ensures).1, pre.0.inputs)
 
 pub bounds-weights-first_of : goal.bounds-weights-first_of
 bounds-weights-first_of c =
-    let run_of : let a = c.args in (0 < c.first_of.result) × (c.first_of.result - 1 < a.n) × (get_or a.weights.now (c.first_of.result - 1) 0 ≡ a.m ^ (a.n - c.requires.1.near.end)) = let pre = c.requires in step_run pre.0 pre.1 pre.2 c.first_of.ensures in
-    omega (arith, run_of.1, c.requires.0.all_weighed)
-
-pub overflow_cast-run : goal.overflow_cast-run
-overflow_cast-run c = omega (arith, c.shared_slice_known-4-1.given (c.first_of.result - 1))
+    let pre = c.requires in omega (arith, (step_run pre.0 pre.1 pre.2 c.first_of.ensures).1, pre.0.all_weighed)
 
 pub classify-requires : goal.classify-requires
 classify-requires c =
-    let is_part : inside c.args.n c.args.from c.args.g ≡ true = part_inside c.args.n c.args.from c.args.g c.requires.4 in
-    let is_free : Apart c.args.n c.args.from c.args.idle = part_apart c.args.n c.args.from c.args.g c.args.idle is_part c.requires.1.apart in
-    let run_of : let a = c.args in (0 < c.first_of.result) × (c.first_of.result - 1 < a.n) × (get_or a.weights.now (c.first_of.result - 1) 0 ≡ a.m ^ (a.n - c.requires.1.near.end)) = let pre = c.requires in step_run pre.0 pre.1 pre.2 c.first_of.ensures in
     let a = c.args in
     let pre = c.requires in
+    let is_part = part_inside a.n a.from a.g pre.4 in
+    let is_free = part_apart a.n a.from a.g a.idle is_part pre.1.apart in
     record {
       levels = pre.0.levels;
       inputs = pre.0.inputs;
@@ -61,18 +52,8 @@ classify-requires c =
           pre.1.group));
       columns =
           step_columns_listed pre.0 pre.1 pre.2 c.without-before.ensures c.few_inside-below.ensures.0 c.few_inside-below.ensures.1
-          run_of.2 c.cover-heads.ensures;
+          (step_run pre.0 pre.1 pre.2 c.first_of.ensures).2 c.cover-heads.ensures;
     }
 
-pub returns : goal.returns
-returns c =
-    let pre = c.requires in
-    step_judged pre.0 pre.1 pre.3 pre.4 pre.5 c.classify.ensures
-
-pub first_of-requires : goal.first_of-requires
-first_of-requires c = omega (arith, c.requires.1.above)
-
 pub overflow_sub-run : goal.overflow_sub-run
-overflow_sub-run c =
-    let run_of : let a = c.args in (0 < c.first_of.result) × (c.first_of.result - 1 < a.n) × (get_or a.weights.now (c.first_of.result - 1) 0 ≡ a.m ^ (a.n - c.requires.1.near.end)) = let pre = c.requires in step_run pre.0 pre.1 pre.2 c.first_of.ensures in
-    run_of.0
+overflow_sub-run c = let pre = c.requires in (step_run pre.0 pre.1 pre.2 c.first_of.ensures).0

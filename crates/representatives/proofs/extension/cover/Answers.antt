@@ -1,9 +1,5 @@
 use Rattle.laws.specs.Prelude.{arith}
 use Rattle.representatives.specs.Extension.{covering_room, covering_spreading, covering_covered}
-use Rattle.representatives.proofs.extension.cover.Reads as reads
-use Rattle.representatives.proofs.extension.cover.Lts as lts
-use Rattle.representatives.proofs.extension.copy.Reads as copy_reads
-use Rattle.representatives.proofs.extension.spread.Reads as spread_reads
 use Rattle.representatives.proofs.extension.cover.Goals as goal
 
 pub copy-requires : goal.copy-requires

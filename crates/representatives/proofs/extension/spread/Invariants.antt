@@ -1,6 +1,5 @@
 -- `representatives::extension::spread` meets its contract. Loop invariant: the assignments so far cover the group without the remaining members.
 -- Assumes nothing.
-use Rattle.std.specs.Prelude.{◌-◌}
 use Rattle.representatives.proofs.Spreading.{Spreads}
 use Rattle.representatives.proofs.extension.spread.Given as goal
 

@@ -1,92 +1,82 @@
--- `representatives::first_rows::row_firsts` meets its contract. The loop's invariant: what is kept and the remaining rows give the classes of all.
--- Assumes nothing.
-use Rattle.std.specs.Prelude.{◌<◌, ◌+◌, ◌-◌}
-use Rattle.laws.specs.Prelude.{◌∙◌, refl, subst, add-zero, arith, length, length-set}
+-- `representatives::first_rows::row_firsts` meets its contract: each row's class is known, or the row is kept. Assumes nothing.
+use Rattle.std.specs.Prelude.{◌<◌, ◌+◌, ◌-◌, ◌≡◌}
+use Rattle.laws.specs.Prelude.{ℕ, List, ◌∙◌, sym, refl, arith, ltb-true, ltb-false, length, length-take, length-drop, get_or, get_or-take, take, drop}
+use Rattle.std.proofs.lemmas.Grind.{get_or_after_one}
 use Rattle.rules.specs.Calls.Answers.{ink_in}
-use Rattle.representatives.specs.Columns.{columns_of, Column, columns_some, column_there}
+use Rattle.representatives.specs.Columns.{columns_of, columns_some, column_first}
 use Rattle.classes.specs.Counting.{firsts_found_one, kept_all, kept_enough, kept_known, kept_new}
 use Rattle.representatives.proofs.first_rows.row_firsts.Goals as goal
 
-pub loop-i-init : goal.loop-i-init
-loop-i-init c =
-    let heads_some : (0 < length c.args.heads.now) × (0 < c.args.run) = columns_some c.args.run c.args.heads.now c.requires.columns in
+-- the rows after the first: their number, and each of them
+rows_left : (xs : List ℕ) → length (take (length xs - 1) (drop 1 xs)) ≡ length xs - 1
+rows_left xs = omega (arith, length-take (length xs - 1) (drop 1 xs), length-drop 1 xs)
+
+row_at : (xs : List ℕ) (i : ℕ) → i < length (take (length xs - 1) (drop 1 xs)) → get_or (take (length xs - 1) (drop 1 xs)) i 0 ≡ get_or xs (i + 1) 0
+row_at xs i h = get_or-take (length xs - 1) (drop 1 xs) i 0 (omega (arith, rows_left xs)) ∙ get_or_after_one xs i 0 ∙ grind arith
+
+pub bounds-heads-0 : goal.bounds-heads-0
+bounds-heads-0 c = (columns_some c.args.run c.args.heads.now c.requires.columns).0
+
+pub loop-p-init : goal.loop-p-init
+loop-p-init c =
     let a = c.args in
-    let some = heads_some in (
-      refl,
+    let pre = c.requires in (
       omega arith,
-      subst (Column (columns_of a.run a.heads.now)) (add-zero _) (column_there a.run a.heads.now 0 0 some.0 some.1),
-      firsts_found_one (ink_in a.cells.now) (length a.cells.now) (columns_of a.run a.heads.now) a.xs.now (a.m + 1) a.firsts.now
-          (omega arith)
-          (omega (arith, c.requires.room)) c.requires.rows (c.requires.within 0 c.requires.rows),
-      c.requires.levels,
+      column_first a.run a.heads.now pre.columns,
+      firsts_found_one (ink_in a.cells.now) (length a.cells.now) (columns_of a.run a.heads.now) a.xs.now (a.m + 1) a.firsts.now (omega arith)
+          (omega (arith, pre.room)) pre.rows (pre.within 0 pre.rows),
+      pre.levels,
     )
 
-pub overflow_cast-p : goal.overflow_cast-p
-overflow_cast-p c = omega (arith, c.shared_slice_known-in-loop-i-1.given c.loop-i.i)
-
-pub class_of-requires : goal.class_of-requires
-class_of-requires c =
-    let heads_some : (0 < length c.args.heads.now) × (0 < c.args.run) = columns_some c.args.run c.args.heads.now c.requires.columns in
-    let l = c.loop-i in (
-      heads_some.1,
-      l.invariant.2,
-      omega (arith, l.invariant.3.few, l.invariant.3.room),
-      c.requires.within
-          l.i c.loop-i-test.true,
-      l.invariant.3.inside,
+pub is_known-requires : goal.is_known-requires
+is_known-requires c =
+    let l = c.loop-p in
+    let here = c.loop-p-test.true in
+    rw (row_at c.args.xs.now l.p-index here) (
+      (columns_some c.args.run c.args.heads.now c.requires.columns).1,
+      l.invariant.1,
+      omega (arith, l.invariant.2.few, l.invariant.2.room),
+      c.requires.within (l.p-index + 1) (omega (arith, rows_left c.args.xs.now)),
+      l.invariant.2.inside,
     )
 
-pub loop-i-preserved-then-class_of-count : goal.loop-i-preserved-then-class_of-count
-loop-i-preserved-then-class_of-count c =
-    let inv = c.loop-i.invariant in
-    (inv.0, inv.1, inv.2, kept_known inv.3 c.loop-i-test.true c.class_of.ensures c.if-class_of-count.true, inv.4)
+pub loop-p-preserved-then-is_known : goal.loop-p-preserved-then-is_known
+loop-p-preserved-then-is_known c =
+    let inv = c.loop-p.invariant in
+    let known = ltb-true _ _ (rw (row_at c.args.xs.now c.loop-p.p-index c.loop-p-test.true) at (sym c.is_known.ensures ∙ c.if-is_known.true)) in
+    (inv.0, inv.1, kept_known inv.2 (omega (arith, rows_left c.args.xs.now)) refl known, inv.3)
 
 pub returns-then-count-m : goal.returns-then-count-m
 returns-then-count-m c =
-    let l = c.loop-i in
-    kept_enough
-    (kept_new l.invariant.3 c.loop-i-test.true c.class_of.ensures c.if-class_of-count.false (omega (arith, l.invariant.4))
-    (c.requires.within l.i c.loop-i-test.true)) (omega (arith, c.if-count-m.true))
-
-pub overflow_cast-p-else-class_of-count : goal.overflow_cast-p-else-class_of-count
-overflow_cast-p-else-class_of-count c =
-    omega (arith, c.shared_slice_known-in-loop-i-1.given c.loop-i.i)
-
-pub overflow_cast-q : goal.overflow_cast-q
-overflow_cast-q c =
-    omega (arith, c.slice_known-else-class_of-count-1.given (c.loop-i.count - 1))
+    let inv = c.loop-p.invariant in
+    let at = row_at c.args.xs.now c.loop-p.p-index c.loop-p-test.true in
+    let more : c.loop-p.p-index + 1 < length c.args.xs.now = omega (arith, rows_left c.args.xs.now) in
+    rw at (kept_enough
+    (kept_new inv.2 more refl (ltb-false _ _ (rw at at (sym c.is_known.ensures ∙ c.if-is_known.false))) (omega arith)
+    (c.requires.within (c.loop-p.p-index + 1) more)) (omega arith))
 
 pub place_apart-hint-requires : goal.place_apart-hint-requires
 place_apart-hint-requires c =
-    let heads_some : (0 < length c.args.heads.now) × (0 < c.args.run) = columns_some c.args.run c.args.heads.now c.requires.columns in
-    let l = c.loop-i in (
-      heads_some.1,
-      l.invariant.2,
-      c.requires.within l.i c.loop-i-test.true,
-      l.invariant.3.inside (l.count - 1) (omega (arith, l.invariant.1)),
+    let l = c.loop-p in
+    rw (row_at c.args.xs.now l.p-index c.loop-p-test.true) (
+      (columns_some c.args.run c.args.heads.now c.requires.columns).1,
+      l.invariant.1,
+      c.requires.within (l.p-index + 1) (omega (arith, rows_left c.args.xs.now)),
+      l.invariant.2.inside (l.count - 1) (omega arith),
     )
 
-pub loop-i-smaller : goal.loop-i-smaller
-loop-i-smaller c = omega (arith, c.loop-i-test.true)
-
-pub loop-i-preserved : goal.loop-i-preserved
-loop-i-preserved c =
-    let l = c.loop-i in (
-      length-set l.firsts l.count _ ∙ l.invariant.0,
+pub loop-p-preserved : goal.loop-p-preserved
+loop-p-preserved c =
+    let inv = c.loop-p.invariant in
+    let at = row_at c.args.xs.now c.loop-p.p-index c.loop-p-test.true in
+    let more : c.loop-p.p-index + 1 < length c.args.xs.now = omega (arith, rows_left c.args.xs.now) in
+    rw at (
       omega arith,
       c.place_apart-hint.ensures.there,
-      kept_new l.invariant.3 c.loop-i-test.true c.class_of.ensures c.if-class_of-count.false (omega (arith, l.invariant.4))
-          (c.requires.within l.i c.loop-i-test.true),
-      omega (arith, l.invariant.4, c.if-count-m.false),
+      kept_new inv.2 more refl (ltb-false _ _ (rw at at (sym c.is_known.ensures ∙ c.if-is_known.false))) (omega arith)
+          (c.requires.within (c.loop-p.p-index + 1) more),
+      omega (arith, c.if-count-m.false),
     )
 
 pub returns : goal.returns
-returns c = kept_all c.loop-i.invariant.3 c.loop-i-test.false
-
-pub bounds-heads-0 : goal.bounds-heads-0
-bounds-heads-0 c =
-    let heads_some : (0 < length c.args.heads.now) × (0 < c.args.run) = columns_some c.args.run c.args.heads.now c.requires.columns in
-    heads_some.0
-
-pub overflow_cast-hint : goal.overflow_cast-hint
-overflow_cast-hint c = omega (arith, c.shared_slice_known-5-1.given 0)
+returns c = kept_all c.loop-p.invariant.2 (omega (arith, rows_left c.args.xs.now))

@@ -5,6 +5,3 @@ use Rattle.representatives.proofs.group.past_of.Goals as goal
 
 pub returns-then-g-past : goal.returns-then-g-past
 returns-then-g-past c = λ n g< near. let twice = near_twice near c.if-g-past.true g< in (twice, omega (arith, near.is, pow_pos near.end))
-
-pub returns : goal.returns
-returns c = λ n g< near. (near, omega (arith, near.reached, c.if-g-past.false))

@@ -1,6 +1,5 @@
 -- `representatives::source::source` meets its contract. Loop invariant: the members still to be tried are members of g, and so is the best so far.
 -- Assumes nothing.
-use Rattle.std.specs.Prelude.{◌-◌}
 use Rattle.representatives.proofs.Taking.{Takes}
 use Rattle.representatives.proofs.source.source.Given as goal
 

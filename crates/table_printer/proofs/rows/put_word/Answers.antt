@@ -1,34 +1,21 @@
--- `table_printer::rows::put_word` meets its contract: eight stores.
+-- `table_printer::rows::put_word` meets its contract: the word's eight bytes are in their place.
 -- Assumes nothing.
-use Rattle.std.specs.Prelude.{◌%◌, ◌/◌}
-use Rattle.laws.specs.Prelude.{◌∙◌, ap, arith, length-set, sets}
-use Rattle.table_printer.specs.Rows.Words.{bytes_set, word_bytes_lem}
+use Rattle.std.specs.Prelude.{◌≡◌, ◌≤◌, ◌+◌, ◌-◌, ◌++◌}
+use Rattle.std.specs.Int.{w64, to_le_bytes}
+use Rattle.laws.specs.Prelude.{ℕ, List, ◌∙◌, sym, refl, append_assoc, div-div-eq-div-mul, drop-drop, sets, sets-eq, length, take, drop, arith}
+use Rattle.table_printer.specs.Rows.Words.{word_bytes}
 use Rattle.table_printer.proofs.rows.put_word.Goals as goal
+
+le_word : (w : ℕ) → to_le_bytes w64 w ≡ word_bytes w
+le_word w = simp div-div-eq-div-mul
+
+eight_set : (l : List ℕ) (at : ℕ) (bytes : List ℕ) → length bytes ≡ 8 → at + 8 ≤ length l → take at l ++ (bytes ++ drop 8 (drop at l)) ≡ sets l at bytes
+eight_set l at bytes eight fits =
+    rw drop-drop (sym (sets-eq bytes l at (omega (arith, eight)) ∙ append_assoc (take at l) bytes (drop (at + length bytes) l) ∙ rw eight))
 
 pub returns : goal.returns
 returns c =
-    let w = c.args.word in
-    bytes_set c.args.out.now c.args.at (w % 256) (w / 256 % 256) (w / 65536 % 256) (w / 16777216 % 256)
-    (w / 4294967296 % 256) (w / 1099511627776 % 256) (w / 281474976710656 % 256) (w / 72057594037927936 % 256)
-    ∙ ap (sets c.args.out.now c.args.at) (word_bytes_lem w)
-
-pub bounds-out-at-2 : goal.bounds-out-at-2
-bounds-out-at-2 c = simp length-set (omega arith)
-
-pub bounds-out-at-3 : goal.bounds-out-at-3
-bounds-out-at-3 c = simp length-set (omega arith)
-
-pub bounds-out-at-4 : goal.bounds-out-at-4
-bounds-out-at-4 c = simp length-set (omega arith)
-
-pub bounds-out-at-5 : goal.bounds-out-at-5
-bounds-out-at-5 c = simp length-set (omega arith)
-
-pub bounds-out-at-6 : goal.bounds-out-at-6
-bounds-out-at-6 c = simp length-set (omega arith)
-
-pub bounds-out-at-7 : goal.bounds-out-at-7
-bounds-out-at-7 c = simp length-set (omega arith)
-
-pub bounds-out-at-8 : goal.bounds-out-at-8
-bounds-out-at-8 c = simp length-set (omega arith)
+    let a = c.args in
+    let bytes : c.copy_from_slice.new.self ≡ word_bytes a.word = c.copy_from_slice.ensures.after ∙ c.to_le_bytes.ensures ∙ le_word a.word in
+    let eight : a.at + 8 - a.at ≡ 8 = omega arith in
+    rw (bytes, eight) (eight_set a.out.now a.at (word_bytes a.word) refl c.requires)

@@ -26,46 +26,40 @@ module _ (m n k : ℕ) (inks : List ℕ) (h : k < length inks) {b : ℕ} (byte :
         levels_length m n k,
       )
 
-pub loop-k-init : goal.loop-k-init
-loop-k-init c =
+pub loop-ink-init : goal.loop-ink-init
+loop-ink-init c =
     (refl, zeros_spell c.args.m c.args.n c.requires.0 c.requires.2 c.requires.3, all_left c.requires.5)
 
-pub ink_byte-ink-requires : goal.ink_byte-ink-requires
-ink_byte-ink-requires c = c.requires.4 c.loop-k.k c.loop-k-test.true
+pub ink_byte-requires : goal.ink_byte-requires
+ink_byte-requires c = c.requires.4 c.loop-ink.ink-index c.loop-ink-test.true
 
 pub wide_row-p-requires : goal.wide_row-p-requires
 wide_row-p-requires c =
-    let at = c.loop-k in (
+    let at = c.loop-ink in (
       c.requires.2,
       c.requires.3,
-      row_room c.args.m c.args.n at.k c.args.inks.now c.loop-k-test.true
-          c.ink_byte-ink.ensures at.invariant.2,
+      row_room c.args.m c.args.n at.ink-index c.args.inks.now c.loop-ink-test.true
+          c.ink_byte.ensures at.invariant.2,
     )
 
 pub next_words-words-requires : goal.next_words-words-requires
 next_words-words-requires c =
-    (c.requires.0, c.requires.1, c.requires.2, c.requires.3, c.loop-k.invariant.1.front.long)
+    (c.requires.0, c.requires.1, c.requires.2, c.requires.3, c.loop-ink.invariant.1.front.long)
 
-pub overflow_add-k : goal.overflow_add-k
-overflow_add-k c = omega (arith, c.loop-k-test.true)
-
-pub loop-k-smaller : goal.loop-k-smaller
-loop-k-smaller c = omega (arith, c.loop-k-test.true)
-
-pub loop-k-preserved : goal.loop-k-preserved
-loop-k-preserved c =
-    let at = c.loop-k in
-    let next : levels_at c.args.m c.args.n (at.k + 1) ≡ _ =
-    ap (levels_at c.args.m c.args.n) (add-one at.k) ∙ levels_next c.args.m c.args.n at.k c.requires.0 in (
+pub loop-ink-preserved : goal.loop-ink-preserved
+loop-ink-preserved c =
+    let at = c.loop-ink in
+    let next : levels_at c.args.m c.args.n (at.ink-index + 1) ≡ _ =
+    ap (levels_at c.args.m c.args.n) (add-one at.ink-index) ∙ levels_next c.args.m c.args.n at.ink-index c.requires.0 in (
       omega arith,
       rw next (c.next_words-words.ensures _ at.invariant.1),
-      put_left (first_row c.args.m c.args.n at.k c.args.inks.now c.loop-k-test.true c.ink_byte-ink.ensures
+      put_left (first_row c.args.m c.args.n at.ink-index c.args.inks.now c.loop-ink-test.true c.ink_byte.ensures
           at.invariant.2) (c.wide_row-p.ensures c.args.m at.levels _ c.requires.1 at.invariant.1),
     )
 
 pub returns : goal.returns
 returns c =
-    none_left (rw (rows_end c.args.m c.args.n c.loop-k.k c.args.inks.now c.loop-k-test.false) at c.loop-k.invariant.2)
+    none_left (rw (rows_end c.args.m c.args.n c.loop-ink.ink-index c.args.inks.now c.loop-ink-test.false) at c.loop-ink.invariant.2)
 
 pub slice_bounds-next_words-end : goal.slice_bounds-next_words-end
-slice_bounds-next_words-end c = sym c.loop-k.invariant.0
+slice_bounds-next_words-end c = sym c.loop-ink.invariant.0

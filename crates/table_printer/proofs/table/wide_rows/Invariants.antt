@@ -1,7 +1,7 @@
 -- `table_printer::table::wide_rows` meets its contract. The loop's invariant: `words` and `levels` spell the levels of index k, and the rows
 -- from k on are left to write at p.
 -- Assumes nothing.
-use Rattle.std.specs.Prelude.{◌-◌, ◌≡◌}
+use Rattle.std.specs.Prelude.{◌≡◌}
 use Rattle.laws.specs.Prelude.{length, drop}
 use Rattle.rules.specs.Limits.{most_inputs}
 use Rattle.rules.specs.Sheets.Sheets.{levels_at}
@@ -10,10 +10,7 @@ use Rattle.net_sheets.specs.Text.Put.{NetLeft}
 use Rattle.table_printer.specs.Rows.Words.{PrintedSpells}
 use Rattle.table_printer.proofs.table.wide_rows.Given as goal
 
-abbrev pub invariant-loop-k : goal.invariant-loop-k
-invariant-loop-k l =
-    (length l.levels ≡ most_inputs) × PrintedSpells l.m l.n l.words l.levels (levels_at l.m l.n l.k)
-    × NetLeft l.out l.p (printed_rows l.m l.n l.k (drop l.k l.inks)) l.initial.out l.at (printed_rows l.m l.n 0 l.inks)
-
-abbrev pub decreases-loop-k : goal.decreases-loop-k
-decreases-loop-k l = length l.inks - l.k
+abbrev pub invariant-loop-ink : goal.invariant-loop-ink
+invariant-loop-ink l =
+    (length l.levels ≡ most_inputs) × PrintedSpells l.m l.n l.words l.levels (levels_at l.m l.n l.ink-index)
+    × NetLeft l.out l.p (printed_rows l.m l.n l.ink-index (drop l.ink-index l.inks)) l.initial.out l.at (printed_rows l.m l.n 0 l.inks)

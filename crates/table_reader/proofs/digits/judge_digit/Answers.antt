@@ -1,6 +1,5 @@
 -- `table_reader::digits::judge_digit` meets its contract, by the field's length and byte.
 -- Assumes nothing.
-use Rattle.laws.specs.Prelude.{arith}
 use Rattle.table_reader.specs.Digits.{digit_long, digit_low, digit_high, digit_good}
 use Rattle.table_reader.proofs.digits.judge_digit.Goals as goal
 
@@ -15,6 +14,3 @@ returns-then-m-b c = digit_high _ _ _ c.if-w-ne1.false c.if-b-lt-ZERO.false c.if
 
 pub returns : goal.returns
 returns c = digit_good _ _ _ c.if-w-ne1.false c.if-b-lt-ZERO.false c.if-m-b.false
-
-pub overflow_cast-b : goal.overflow_cast-b
-overflow_cast-b c = omega (arith, c.shared_slice_known-1.given 0)

@@ -4,7 +4,7 @@ use Rattle.laws.specs.Prelude.{ℕ, ◌∙◌, sym, subst, List, lt_of_lt_of_le,
 use Rattle.rules.specs.Groups.Groups.{size}
 use Rattle.rules.specs.Nets.Wirings.{first_input}
 use Rattle.trees.specs.Groups.Members.{size_one}
-use Rattle.wirings.specs.Choice.{split_by, LayersRoom, room_below}
+use Rattle.wirings.specs.Choice.{split_by, room_below}
 use Rattle.wirings.specs.Added.{Added, added_single}
 use Rattle.wirings.specs.Chosen.{Choosable, ready_some, part_less, part_sizes, left_choosable, right_choosable, parts_added}
 use Rattle.wirings.proofs.choose.+wire_group.Goals as goal
@@ -15,9 +15,6 @@ single-requires t c =
     ready_some a.n a.marks.now (split_by a.choice a.n a.marks.now a.fewest.now) a.g c.requires.0
 
 -- ---- a single input
-
-pub first_input-requires : goal.first_input-requires
-first_input-requires t c = let ready = c.requires.0 in omega (arith, ready.inputs)
 
 -- a group of one input: its size, and its only input
 alone : (n g : ℕ) → g < 2 ^ n → size n g ≡ 1 → first_input n g < n

@@ -1,45 +1,20 @@
--- `wirings::fewest_layers::fewer_by` meets its contract: one test after the other. Assumes nothing.
+-- `wirings::fewest_layers::fewer_by` meets its contract: a part with fewer layers, or the first. Assumes nothing.
 use Rattle.std.specs.Prelude.{◌<◌}
-use Rattle.laws.specs.Prelude.{◌∙◌, sym, refl, inl, inr, true≢false, arith}
+use Rattle.laws.specs.Prelude.{◌∙◌, sym, inr, arith}
 use Rattle.rules.specs.Nets.Shallow.{split_layers}
 use Rattle.wirings.proofs.fewest_layers.fewer_by.Goals as goal
+use Rattle.wirings.proofs.fewest_layers.fewer_by.Goals.{then-least-eq0-via-then-least-eq0, then-least-eq0-via-else-least-eq0+then-layers-least}
 
 pub returns-then-least-eq0 : goal.returns-then-least-eq0
 unfolding split_layers
 returns-then-least-eq0 c =
-    let some_layers : 0 < c.split_layers-layers.result = omega (arith, c.split_layers-layers.ensures) in
     let found = c.split_layers-layers.ensures in
-    let some = some_layers in
+    let some : 0 < c.split_layers-layers.result = omega (arith, found) in
     record {
-      as_before = λ was. absurd (omega (arith, c.if-least-eq0.true));
-      by_part = λ two. (some, omega arith);
+      as_before = λ was. elim c.then-least-eq0.branch [
+        | then-least-eq0-via-then-least-eq0 w ↦ absurd (omega (arith, w.if-least-eq0.true))
+        | then-least-eq0-via-else-least-eq0+then-layers-least w ↦ (some, omega (arith, w.if-layers-least.true))
+      ];
+      by_part = λ two. (some, omega (arith, found));
       is = inr (sym c.both_two.ensures ∙ c.if-both_two.true, sym found);
-    }
-
-pub returns-then-layers-least : goal.returns-then-layers-least
-unfolding split_layers
-returns-then-layers-least c =
-    let some_layers : 0 < c.split_layers-layers.result = omega (arith, c.split_layers-layers.ensures) in
-    let found = c.split_layers-layers.ensures in
-    let some = some_layers in
-    record {
-      as_before = λ was. (some, omega (arith, c.if-layers-least.true));
-      by_part = λ two. (some, omega arith);
-      is = inr (sym c.both_two.ensures ∙ c.if-both_two.true, sym found);
-    }
-
-pub returns-else-layers-least : goal.returns-else-layers-least
-returns-else-layers-least c =
-    record {
-      as_before = λ was. (was, omega arith);
-      by_part = λ two. (omega (arith, c.if-least-eq0.false), omega (arith, c.if-layers-least.false, c.split_layers-layers.ensures));
-      is = inl refl;
-    }
-
-pub returns-else-both_two : goal.returns-else-both_two
-returns-else-both_two c =
-    record {
-      as_before = λ was. (was, omega arith);
-      by_part = λ two. absurd (true≢false (sym two ∙ sym c.both_two.ensures ∙ c.if-both_two.false));
-      is = inl refl;
     }

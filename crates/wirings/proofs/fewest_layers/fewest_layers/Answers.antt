@@ -1,19 +1,13 @@
 -- `wirings::fewest_layers::fewest_layers` meets its contract. The loop's invariant: g is a part of the leaves, those below it are known, and have room
 -- for their members if `sized` says so. Assumes nothing.
-use Rattle.std.specs.Prelude.{◌<◌, ◌≤◌, ◌+◌, ◌-◌, ◌^◌, ◌≡◌}
-use Rattle.laws.specs.Prelude.{ℕ, ◌∙◌, sym, refl, subst, ⊎_elim, true≢false, List, arith, length, length-set, pow_mono}
-use lib.Bits.{and_zero_l}
+use Rattle.std.specs.Prelude.{◌<◌, ◌≤◌, ◌^◌}
+use Rattle.laws.specs.Prelude.{ℕ, ◌∙◌, sym, true≢false, List, arith, length, length-set, pow_mono}
 use Rattle.radix.specs.Parts.{PartOf}
 use Rattle.radix.specs.Widths.{most_members}
-use Rattle.wirings.specs.FewestLayers.{WiringKnown, known_small, wiring_known_next}
+use Rattle.wirings.specs.FewestLayers.{known_small, wiring_known_next}
 use Rattle.wirings.specs.Fast.Floors.{floor_under, sized_next}
 use Rattle.wirings.proofs.fewest_layers.fewest_layers.Goals as goal
 use Rattle.wirings.proofs.fewest_layers.fewest_layers.Goals.{then-layers-floor, else-layers-floor}
-
-pub loop-g-init : goal.loop-g-init
-loop-g-init c =
-    let n : ℕ = c.args.n in
-    (omega arith, refl, λ h none. absurd (omega arith), λ is n h h< none. absurd (omega arith), λ _. and_zero_l c.args.leaves)
 
 pub layers_of-layers-requires : goal.layers_of-layers-requires
 layers_of-layers-requires c =
@@ -47,17 +41,6 @@ overflow_cast-fewest c =
       c.requires.0,
     )
 
-pub part_after-g-requires : goal.part_after-g-requires
-part_after-g-requires c =
-    let g : ℕ = c.loop-g.g in
-    let part : PartOf g c.args.leaves = c.loop-g.invariant.4 c.loop-g-test.true in
-    let n : ℕ = c.args.n in
-    let small : 2 ^ n ≤ 2 ^ most_members = pow_mono {i = n} {j = most_members} c.requires.0 in
-    (omega (arith, c.requires.3, small), c.loop-g-test.true, part)
-
-pub loop-g-smaller : goal.loop-g-smaller
-loop-g-smaller c = let after = c.part_after-g.ensures in omega (arith, after.above, after.end)
-
 pub loop-g-preserved : goal.loop-g-preserved
 loop-g-preserved c =
     let g : ℕ = c.loop-g.g in
@@ -82,28 +65,3 @@ loop-g-preserved c =
       ],
       after.part,
     )
-
-pub returns : goal.returns
-returns c =
-    let l = c.loop-g in
-    let a = c.args in
-    let all : l.g ≡ a.leaves + 1 = omega (arith, c.loop-g-test.false, l.invariant.0) in
-    subst (λ (k : ℕ). WiringKnown a.n a.marks.now a.leaves k l.fewest) all l.invariant.2
-
-pub floor_at-floor-requires : goal.floor_at-floor-requires
-floor_at-floor-requires c =
-    let g : ℕ = c.loop-g.g in
-    let n : ℕ = c.args.n in
-    let g< : g < 2 ^ n = omega (arith, c.loop-g-test.true, c.requires.3) in
-    let marks : List ℕ = c.args.marks.now in
-    let room : (g < length marks) × (g < length c.loop-g.fewest) = (omega (arith, g<, c.requires.1), omega (arith, g<, c.requires.2, c.loop-g.invariant.1)) in
-    room.0
-
-pub bounds-fewest-g : goal.bounds-fewest-g
-bounds-fewest-g c =
-    let g : ℕ = c.loop-g.g in
-    let n : ℕ = c.args.n in
-    let g< : g < 2 ^ n = omega (arith, c.loop-g-test.true, c.requires.3) in
-    let marks : List ℕ = c.args.marks.now in
-    let room : (g < length marks) × (g < length c.loop-g.fewest) = (omega (arith, g<, c.requires.1), omega (arith, g<, c.requires.2, c.loop-g.invariant.1)) in
-    room.1

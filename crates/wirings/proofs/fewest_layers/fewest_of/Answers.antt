@@ -1,5 +1,4 @@
 -- `wirings::fewest_layers::fewest_of` meets its contract. The loop's invariant: `least` is the least over the parts passed. Assumes nothing.
-use Rattle.std.specs.Prelude.{◌<◌, ◌+◌, ◌-◌}
 use Rattle.laws.specs.Prelude.{ℕ, arith}
 use Rattle.radix.specs.Widths.{most_members}
 use Rattle.marks.specs.FirstParts.{part_at}
@@ -26,9 +25,6 @@ pub next_part-part-requires : goal.next_part-part-requires
 next_part-part-requires c =
     (omega (arith, c.without_first-rest.ensures most_members c.requires.1), c.loop-part-test.true, c.loop-part.invariant.is_part)
 
-pub loop-part-smaller : goal.loop-part-smaller
-loop-part-smaller c = omega (arith, c.next_part-part.ensures.above, c.loop-part-test.true)
-
 pub loop-part-preserved : goal.loop-part-preserved
 loop-part-preserved c =
     let rest : ℕ = c.without_first-rest.result in
@@ -43,23 +39,8 @@ returns c n g< =
     scanned_all c.args.marks.now c.args.fewest.now c.args.g c.without_first-rest.result c.requires.0 c.without_first-rest.ensures n g<
     l.part l.least l.invariant c.loop-part-test.false
 
-pub without_first-rest-requires : goal.without_first-rest-requires
-without_first-rest-requires c = c.requires.0
-
-pub overflow_add-first : goal.overflow_add-first
-overflow_add-first c =
-    let rest : ℕ = c.without_first-rest.result in
-    let here : (0 < (c.args.g - rest) + c.loop-part.part) × ((c.args.g - rest) + c.loop-part.part < c.args.g) =
-    let at = part_at c.args.g rest c.requires.0 c.without_first-rest.ensures most_members c.requires.1
-    c.loop-part.part c.loop-part-test.true c.loop-part.invariant.is_part in
-    (at.0, at.1) in
-    omega (arith, here)
-
 pub fewer_by-least-requires : goal.fewer_by-least-requires
 fewer_by-least-requires c =
-    let rest : ℕ = c.without_first-rest.result in
-    let here : (0 < (c.args.g - rest) + c.loop-part.part) × ((c.args.g - rest) + c.loop-part.part < c.args.g) =
-    let at = part_at c.args.g rest c.requires.0 c.without_first-rest.ensures most_members c.requires.1
+    let at = part_at c.args.g c.without_first-rest.result c.requires.0 c.without_first-rest.ensures most_members c.requires.1
     c.loop-part.part c.loop-part-test.true c.loop-part.invariant.is_part in
-    (at.0, at.1) in
-    (here.0, here.1, c.requires.2, c.requires.3)
+    (at.0, at.1, c.requires.2, c.requires.3)

@@ -1,5 +1,6 @@
 -- `arrivals::sheet::lines::arrival_line` meets its contract: the name, then the times.
 -- Assumes nothing.
+use Rattle.std.proofs.lemmas.Result.{err_from_is_err_and}
 use Rattle.rules.specs.Text.{space, space_byte}
 use Rattle.rules.specs.Sheets.Fields.{field}
 use Rattle.rules.specs.Sheets.ArrivalSheet.{next_name, arrival_line}
@@ -7,14 +8,14 @@ use Rattle.fields.specs.Steps.{nothing}
 use Rattle.arrivals.specs.Sheet.Line.{from_from, from_to, line_back, line_on}
 use Rattle.arrivals.proofs.sheet.lines.arrival_line.Goals as goal
 
-pub returns-in-Back : goal.returns-in-Back
+pub returns-in_err-field : goal.returns-in_err-field
 unfolding arrival_line from_from from_to space
-returns-in-Back c =
-    line_back nothing (field (next_name _) space_byte) (λ _. from_from) _ _ _ c.next_name.ensures _ _ c.turned.result
-    c.in-Back.is c.turned.ensures
+returns-in_err-field c =
+    let p = err_from_is_err_and c.from_residual.result c.from_residual.ensures.1 in
+    rw (p.1, p.2) (line_back nothing (field (next_name _) space_byte) (λ _. from_from) _ _ _ c.next_name.ensures _ c.in_err-field.was)
 
-pub returns-in-On : goal.returns-in-On
+pub returns : goal.returns
 unfolding arrival_line from_from from_to space
-returns-in-On c =
-    line_on nothing (field (next_name _) space_byte) (λ _. from_from) _ _ _ c.next_name.ensures _ _ c.from_from.result
-    c.in-On.is c.from_from.ensures
+returns c =
+    line_on nothing (field (next_name _) space_byte) (λ _. from_from) _ _ _ c.next_name.ensures _ c.from_from.result
+    c.in_ok-field.was c.from_from.ensures

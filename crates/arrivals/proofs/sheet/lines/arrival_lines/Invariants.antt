@@ -1,12 +1,8 @@
 -- `arrivals::sheet::lines::arrival_lines` meets its contract. The loop's invariant: the lines from here are the lines from the start.
 -- Assumes nothing.
-use Rattle.std.specs.Prelude.{◌-◌}
 use Rattle.nets.specs.Forms.{names_in}
 use Rattle.arrivals.specs.Sheet.Lines.{ArrivalReading}
 use Rattle.arrivals.proofs.sheet.lines.arrival_lines.Given as goal
 
 abbrev pub invariant-loop-i : goal.invariant-loop-i
-invariant-loop-i l = ArrivalReading (names_in l.net l.header) l.s l.at (record { from = l.from; to = l.to }) l.place l.i
-
-abbrev pub decreases-loop-i : goal.decreases-loop-i
-decreases-loop-i l = l.header.inputs - l.i
+invariant-loop-i l = ArrivalReading (names_in l.net l.header) l.s l.at l.times l.place l.i

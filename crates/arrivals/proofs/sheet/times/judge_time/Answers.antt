@@ -11,20 +11,20 @@ returns-then-not-is_lead c = time_lead _ _ (sym c.is_lead.ensures ∙ c.if-not-i
 pub digits_value-requires : goal.digits_value-requires
 digits_value-requires c = leads_short _ (sym c.is_lead.ensures ∙ c.if-not-is_lead.false)
 
-pub returns-then-value-gt-MOST_TIME : goal.returns-then-value-gt-MOST_TIME
-returns-then-value-gt-MOST_TIME c =
-    time_over _ _ (sym c.is_lead.ensures ∙ c.if-not-is_lead.false) _ _ c.digits_value.ensures
-    (ap option_of c.in-At.is) c.if-value-gt-MOST_TIME.true
+pub returns-in-Some : goal.returns-in-Some
+returns-in-Some c =
+    time_good _ _ (sym c.is_lead.ensures ∙ c.if-not-is_lead.false) _ _ c.digits_value.ensures (ap option_of c.in-Some.is)
+    c.if-value-le-MOST_TIME.true c.if-least-value.true
 
-pub returns-then-value-least : goal.returns-then-value-least
-returns-then-value-least c =
-    time_low _ _ (sym c.is_lead.ensures ∙ c.if-not-is_lead.false) _ _ c.digits_value.ensures
-    (ap option_of c.in-At.is) c.if-value-least.true
+pub returns-in_default : goal.returns-in_default
+returns-in_default c =
+    time_over _ _ (sym c.is_lead.ensures ∙ c.if-not-is_lead.false) _ _ c.digits_value.ensures (ap option_of c.in-Some.is)
+    c.if-value-le-MOST_TIME.false
 
-pub returns-in-Nowhere : goal.returns-in-Nowhere
-returns-in-Nowhere c = time_digits _ _ _ c.digits_value.ensures (ap option_of c.in-Nowhere.is)
+pub returns-in_default-2 : goal.returns-in_default-2
+returns-in_default-2 c =
+    time_low _ _ (sym c.is_lead.ensures ∙ c.if-not-is_lead.false) _ _ c.digits_value.ensures (ap option_of c.in-Some.is)
+    c.if-least-value.false
 
-pub returns-else-value-least : goal.returns-else-value-least
-returns-else-value-least c =
-    time_good _ _ (sym c.is_lead.ensures ∙ c.if-not-is_lead.false) _ _ c.digits_value.ensures
-    (ap option_of c.in-At.is) c.if-value-gt-MOST_TIME.false c.if-value-least.false
+pub returns-in_default-3 : goal.returns-in_default-3
+returns-in_default-3 c = time_digits _ _ _ c.digits_value.ensures (ap option_of c.in_default.is)

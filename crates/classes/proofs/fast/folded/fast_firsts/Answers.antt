@@ -1,12 +1,7 @@
 -- `classes::fast::folded::fast_firsts` meets its contract: each way has what it requires. Assumes nothing.
-use Rattle.laws.specs.Prelude.{arith, lt_of_lt_of_le}
+use Rattle.laws.specs.Prelude.{lt_of_lt_of_le}
 use Rattle.classes.specs.Keys.{key_below}
 use Rattle.classes.proofs.fast.folded.fast_firsts.Goals as goal
-
-pub folded_firsts-requires : goal.folded_firsts-requires
-folded_firsts-requires c =
-    let (two, long) = c.pays.ensures c.if-pays.true in
-    (c.requires.0, c.requires.1, λ k. omega (arith, c.requires.3 k, two), c.requires.4 two, long)
 
 pub class_firsts-requires : goal.class_firsts-requires
 class_firsts-requires c =

@@ -24,12 +24,6 @@ overflow_add-last-2 c = let pre = c.requires in omega (arith, last_small _ pre.0
 pub power-requires : goal.power-requires
 power-requires c = (omega arith, omega (arith, (sound_size _ c.requires.0).inputs_most))
 
-pub paint_copies-requires : goal.paint_copies-requires
-paint_copies-requires c = c.requires
-
-pub returns-then-last-power : goal.returns-then-last-power
-returns-then-last-power c = c.paint_copies.ensures
-
 pub overflow_sub-net : goal.overflow_sub-net
 overflow_sub-net c = let pre = c.requires in omega (arith, last_small _ pre.0 _ _ pre.1)
 

@@ -7,6 +7,3 @@ use Rattle.fields.proofs.header.keys.key_of.Given as goal
 
 abbrev pub invariant-loop-i : goal.invariant-loop-i
 invariant-loop-i l = (l.i ≤ length l.w) × IsKey (drop l.i l.w) l.key
-
-abbrev pub decreases-loop-i : goal.decreases-loop-i
-decreases-loop-i l = l.i

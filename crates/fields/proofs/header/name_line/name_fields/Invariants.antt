@@ -7,6 +7,3 @@ use Rattle.fields.proofs.header.name_line.name_fields.Given as goal
 
 abbrev pub invariant-loop-i : goal.invariant-loop-i
 invariant-loop-i l = Reading (layout_of l.layout) l.s l.at l.levels l.inputs l.last l.header l.place l.i
-
-abbrev pub decreases-loop-i : goal.decreases-loop-i
-decreases-loop-i l = l.inputs - l.i

@@ -8,6 +8,3 @@ use Rattle.fields.proofs.header.names.is_repeated.Given as goal
 
 abbrev pub invariant-loop-i : goal.invariant-loop-i
 invariant-loop-i l = any (same l.w) (map (name_in l.s l.header) (range l.i (l.count - l.i))) ≡ any (same l.w) (map (name_in l.s l.header) (range 0 l.count))
-
-abbrev pub decreases-loop-i : goal.decreases-loop-i
-decreases-loop-i l = l.count - l.i

@@ -10,6 +10,3 @@ use Rattle.fields.proofs.header.same.same_names.Given as goal
 
 abbrev pub invariant-loop-i : goal.invariant-loop-i
 invariant-loop-i l = same_names_of (map (name_in l.s l.h) (range 0 l.n)) (map (name_in l.t l.k) (range 0 l.n)) ≡ same_from (name_in l.s l.h) (name_in l.t l.k) l.i l.n
-
-abbrev pub decreases-loop-i : goal.decreases-loop-i
-decreases-loop-i l = l.n - l.i

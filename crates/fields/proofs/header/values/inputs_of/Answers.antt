@@ -9,18 +9,15 @@ use Rattle.fields.proofs.header.values.inputs_of.Goals as goal
 
 pub loop-n-init : goal.loop-n-init
 unfolding inputs_of
-loop-n-init c = (refl, omega arith)
+loop-n-init c = refl
 
 pub returns-then-is_decimal : goal.returns-then-is_decimal
-returns-then-is_decimal c = sym (find_stop _ c.loop-n.n (most_inputs + 1) (omega arith) (sym c.is_decimal.ensures ∙ c.if-is_decimal.true))
-    ∙ c.loop-n.invariant.0
+returns-then-is_decimal c =
+    sym (find_stop _ c.loop-n.n (most_inputs + 1) (omega arith) (sym c.is_decimal.ensures ∙ c.if-is_decimal.true)) ∙ c.loop-n.invariant
 
 pub loop-n-preserved : goal.loop-n-preserved
-loop-n-preserved c = (
-  find_next _ c.loop-n.n (most_inputs + 1) (omega arith) (sym c.is_decimal.ensures ∙ c.if-is_decimal.false)
-      ∙ c.loop-n.invariant.0,
-  omega arith,
-)
+loop-n-preserved c =
+    find_next _ c.loop-n.n (most_inputs + 1) (omega arith) (sym c.is_decimal.ensures ∙ c.if-is_decimal.false) ∙ c.loop-n.invariant
 
 pub returns : goal.returns
-returns c = sym (find_end _ c.loop-n.n (most_inputs + 1) (omega arith)) ∙ c.loop-n.invariant.0
+returns c = sym (find_end _ c.loop-n.n (most_inputs + 1) (omega arith)) ∙ c.loop-n.invariant

@@ -8,16 +8,14 @@ pub power-requires : goal.power-requires
 power-requires c = (
   c.requires,
   let most =
-      inputs_most _ 0 _ 0 _ c.inputs_of.ensures c.in-At.is in omega arith,
+      inputs_most _ 0 _ 0 _ c.inputs_of.ensures c.in-Some.is in omega arith,
 )
 
-pub returns-then-power-le-MOST_CELLS : goal.returns-then-power-le-MOST_CELLS
-returns-then-power-le-MOST_CELLS c = field_inputs_fit _ _ _ _ _ c.inputs_of.ensures c.in-At.is
-    c.power.ensures c.if-power-le-MOST_CELLS.true
+pub returns-in-Some : goal.returns-in-Some
+returns-in-Some c = field_inputs_fit _ _ _ _ _ c.inputs_of.ensures c.in-Some.is c.power.ensures c.if-power-le-MOST_CELLS.true
 
-pub returns-in-Nowhere : goal.returns-in-Nowhere
-returns-in-Nowhere c = inputs_none _ _ _ c.inputs_of.ensures c.in-Nowhere.is
+pub returns-in_default : goal.returns-in_default
+returns-in_default c = inputs_over _ _ _ _ _ c.inputs_of.ensures c.in-Some.is c.power.ensures c.if-power-le-MOST_CELLS.false
 
-pub returns-else-power-le-MOST_CELLS : goal.returns-else-power-le-MOST_CELLS
-returns-else-power-le-MOST_CELLS c = inputs_over _ _ _ _ _ c.inputs_of.ensures c.in-At.is
-    c.power.ensures c.if-power-le-MOST_CELLS.false
+pub returns-in_default-2 : goal.returns-in_default-2
+returns-in_default-2 c = inputs_none _ _ _ c.inputs_of.ensures c.in_default.is

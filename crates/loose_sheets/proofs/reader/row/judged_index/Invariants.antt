@@ -1,11 +1,7 @@
 -- `loose_sheets::reader::row::judged_index` meets its contract. The loop's invariant: the index from here is the index from the start.
 -- Assumes nothing.
-use Rattle.std.specs.Prelude.{◌-◌}
 use Rattle.loose_sheets.specs.Reader.Index.{InIndex}
 use Rattle.loose_sheets.proofs.reader.row.judged_index.Given as goal
 
-abbrev pub invariant-loop-i : goal.invariant-loop-i
-invariant-loop-i l = InIndex l.s l.at l.m l.n l.place l.index l.i
-
-abbrev pub decreases-loop-i : goal.decreases-loop-i
-decreases-loop-i l = l.n - l.i
+abbrev pub invariant-loop : goal.invariant-loop
+invariant-loop l = InIndex l.s l.at l.m l.n l.place l.index l.counter

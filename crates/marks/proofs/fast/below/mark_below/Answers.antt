@@ -1,136 +1,42 @@
--- `marks::fast::below::mark_below` meets its contract. The loop's invariant: the groups below `g` are marked and known, and the work arrays keep
--- their lengths.
--- Assumes nothing.
-use Rattle.std.specs.Prelude.{◌<◌, ◌≤◌, ◌+◌, ◌-◌, ◌^◌, ◌≡◌}
-use Rattle.laws.specs.Prelude.{ℕ, ◌∙◌, refl, subst, List, arith, pow_mono, pow_pos}
+-- `marks::fast::below::mark_below` meets its contract: the group is marked, and copies are passed. Assumes nothing.
+use Rattle.std.specs.Prelude.{◌<◌, ◌-◌, ◌^◌, ◌≡◌}
+use Rattle.laws.specs.Prelude.{ℕ, subst, arith, pow_mono, pow_pos}
 use Rattle.rules.specs.Calls.Answers.{ink_in}
-use Rattle.representatives.specs.Steps.{work_same, Near}
 use Rattle.marks.specs.Marking.{Below}
-use Rattle.marks.proofs.Passing.{Passed, passed_none, passed_past, passed_step, passed_room, passed_next, passed_copies, passed_idle}
+use Rattle.marks.proofs.Passing.{passed_none, passed_next, passed_copies, passed_idle}
 use Rattle.marks.proofs.fast.below.mark_below.Goals as goal
 
-pub overflow_sub-end : goal.overflow_sub-end
-overflow_sub-end c = omega (arith, c.power-end.ensures, pow_pos c.args.n)
-
 pub loop-g-init : goal.loop-g-init
-loop-g-init c =
-    let a = c.args in (
-      record { for_counts = refl; for_kept = refl; for_xs = refl; for_ys = refl; for_firsts = refl },
-      passed_none a.m a.n (ink_in a.cells.now) a.marks.now a.counts.now a.kept.now,
-      omega (arith, c.power-end.ensures),
-      omega arith,
-    )
-
-pub past_of-past-requires : goal.past_of-past-requires
-past_of-past-requires c = passed_past c.loop-g.invariant.1 c.requires.0.inputs
-
-pub mark_next-mark-requires : goal.mark_next-mark-requires
-mark_next-mark-requires c =
-    let below_whole : c.loop-g.g < 2 ^ c.args.n = omega (arith, c.loop-g.invariant.2, c.loop-g-test.true, pow_pos c.args.n) in
-    let is_past : (Near c.args.n c.loop-g.g c.past_of-past.result) × (c.loop-g.g < c.past_of-past.result) = c.past_of-past.ensures c.args.n below_whole c.loop-g.invariant.1.near in
-    let l = c.loop-g in
-    let pre = c.requires in
-    let long = l.invariant.0 in (
-      work_same pre.0 long.for_counts long.for_kept long.for_xs long.for_ys long.for_firsts,
-      passed_step l.invariant.1 below_whole is_past,
-      pre.1,
-      passed_room l.invariant.1 pre.2,
-    )
-
-pub put_mark-requires : goal.put_mark-requires
-put_mark-requires c =
-    let below_whole : c.loop-g.g < 2 ^ c.args.n = omega (arith, c.loop-g.invariant.2, c.loop-g-test.true, pow_pos c.args.n) in
-    omega (arith, below_whole, passed_room c.loop-g.invariant.1 c.requires.2)
+loop-g-init c = let a = c.args in (passed_none a.m a.n (ink_in a.cells.now) a.marks.now a.counts.now a.kept.now, omega arith)
 
 pub more_idle-idle-requires : goal.more_idle-idle-requires
 more_idle-idle-requires c =
-    let below_whole : c.loop-g.g < 2 ^ c.args.n = omega (arith, c.loop-g.invariant.2, c.loop-g-test.true, pow_pos c.args.n) in
-    let l = c.loop-g in
-    let pre = c.requires in (
-      omega (arith, below_whole, c.mark_next-mark.auto.counts, l.invariant.0.for_counts, pre.0.for_counts),
-      omega (arith, below_whole, pow_mono pre.0.inputs),
-      omega (arith, l.invariant.1.idle_below, pow_mono pre.0.inputs),
+    let pre = c.requires in
+    let l = c.loop-g in (
+      omega (arith, pre.0.for_counts, pow_pos c.args.n),
+      omega (arith, pow_mono pre.0.inputs, pow_pos c.args.n),
+      omega (arith, l.invariant.0.idle_below, pow_mono pre.0.inputs),
     )
-
-pub pass_copies-g-requires : goal.pass_copies-g-requires
-pass_copies-g-requires c =
-    let PassedIn : List ℕ → ℕ → Type 0 = λ marks next.
-    let a = c.args in
-    Passed a.m a.n (ink_in a.cells.now) a.marks.now c.mark_next-mark.new.counts c.mark_next-mark.new.kept marks c.more_idle-idle.result
-    c.past_of-past.result next in
-    let below_whole : c.loop-g.g < 2 ^ c.args.n = omega (arith, c.loop-g.invariant.2, c.loop-g-test.true, pow_pos c.args.n) in
-    let is_past : (Near c.args.n c.loop-g.g c.past_of-past.result) × (c.loop-g.g < c.past_of-past.result) = c.past_of-past.ensures c.args.n below_whole c.loop-g.invariant.1.near in
-    let group_passed : PassedIn c.put_mark.new.marks (c.loop-g.g + 1) =
-    let pre = c.requires in
-    passed_next c.loop-g.invariant.1 pre.2 (omega (arith, pre.0.levels)) below_whole
-    is_past
-    c.mark_next-mark.ensures c.put_mark.ensures c.more_idle-idle.ensures in
-    let pre = c.requires in (
-      c.loop-g-test.true,
-      omega (arith, c.loop-g.invariant.2, pow_mono pre.0.inputs),
-      omega (arith, c.loop-g.invariant.2, group_passed.marked.same, pre.2),
-    )
-
-pub loop-g-smaller : goal.loop-g-smaller
-loop-g-smaller c =
-    let PassedIn : List ℕ → ℕ → Type 0 = λ marks next.
-    let a = c.args in
-    Passed a.m a.n (ink_in a.cells.now) a.marks.now c.mark_next-mark.new.counts c.mark_next-mark.new.kept marks c.more_idle-idle.result
-    c.past_of-past.result next in
-    let below_whole : c.loop-g.g < 2 ^ c.args.n = omega (arith, c.loop-g.invariant.2, c.loop-g-test.true, pow_pos c.args.n) in
-    let is_past : (Near c.args.n c.loop-g.g c.past_of-past.result) × (c.loop-g.g < c.past_of-past.result) = c.past_of-past.ensures c.args.n below_whole c.loop-g.invariant.1.near in
-    let group_passed : PassedIn c.put_mark.new.marks (c.loop-g.g + 1) =
-    let pre = c.requires in
-    passed_next c.loop-g.invariant.1 pre.2 (omega (arith, pre.0.levels)) below_whole
-    is_past
-    c.mark_next-mark.ensures c.put_mark.ensures c.more_idle-idle.ensures in
-    let copies_passed : let next = c.pass_copies-g.result in (c.loop-g.g < next) × (next ≤ c.power-end.result - 1) × PassedIn c.pass_copies-g.new.marks next =
-    let pre = c.requires in
-    passed_copies (omega (arith, pre.0.levels)) pre.2 group_passed is_past.1 c.loop-g-test.true
-    (omega (arith, c.loop-g.invariant.2)) c.pass_copies-g.auto.marks c.pass_copies-g.ensures in
-    let did = copies_passed in omega (arith, did.0, did.1)
 
 pub loop-g-preserved : goal.loop-g-preserved
 loop-g-preserved c =
-    let PassedIn : List ℕ → ℕ → Type 0 = λ marks next.
     let a = c.args in
-    Passed a.m a.n (ink_in a.cells.now) a.marks.now c.mark_next-mark.new.counts c.mark_next-mark.new.kept marks c.more_idle-idle.result
-    c.past_of-past.result next in
-    let below_whole : c.loop-g.g < 2 ^ c.args.n = omega (arith, c.loop-g.invariant.2, c.loop-g-test.true, pow_pos c.args.n) in
-    let is_past : (Near c.args.n c.loop-g.g c.past_of-past.result) × (c.loop-g.g < c.past_of-past.result) = c.past_of-past.ensures c.args.n below_whole c.loop-g.invariant.1.near in
-    let group_passed : PassedIn c.put_mark.new.marks (c.loop-g.g + 1) =
+    let l = c.loop-g in
     let pre = c.requires in
-    passed_next c.loop-g.invariant.1 pre.2 (omega (arith, pre.0.levels)) below_whole
-    is_past
-    c.mark_next-mark.ensures c.put_mark.ensures c.more_idle-idle.ensures in
-    let copies_passed : let next = c.pass_copies-g.result in (c.loop-g.g < next) × (next ≤ c.power-end.result - 1) × PassedIn c.pass_copies-g.new.marks next =
-    let pre = c.requires in
-    passed_copies (omega (arith, pre.0.levels)) pre.2 group_passed is_past.1 c.loop-g-test.true
-    (omega (arith, c.loop-g.invariant.2)) c.pass_copies-g.auto.marks c.pass_copies-g.ensures in
-    let did = copies_passed in
-    let long = c.loop-g.invariant.0 in (
-      record {
-        for_counts = c.mark_next-mark.auto.counts ∙ long.for_counts;
-        for_kept = c.mark_next-mark.auto.kept ∙ long.for_kept;
-        for_xs = c.mark_next-mark.auto.xs ∙ long.for_xs;
-        for_ys = c.mark_next-mark.auto.ys ∙ long.for_ys;
-        for_firsts = c.mark_next-mark.auto.firsts ∙ long.for_firsts;
-      },
-      did.2,
-      c.loop-g.invariant.2,
-      did.1,
-    )
+    let pos : 0 < a.m = omega (arith, pre.0.levels) in
+    let below_whole : l.g < 2 ^ a.n = omega (arith, pow_pos a.n) in
+    let near = c.past_of-past.ensures a.n below_whole l.invariant.0.near in
+    let next = passed_next l.invariant.0 pre.2 pos below_whole near c.mark_next-mark.ensures c.put_mark.ensures c.more_idle-idle.ensures in
+    let did = passed_copies pos pre.2 next near.1 c.loop-g-test.true (omega arith) c.pass_copies-g.auto.marks c.pass_copies-g.ensures in
+    (did.2, did.1)
 
 pub returns : goal.returns
 returns c =
     let a = c.args in
     let l = c.loop-g in
-    let all : l.g ≡ 2 ^ a.n - 1 = omega (arith, l.invariant.2, l.invariant.3, c.loop-g-test.false) in
+    let all : l.g ≡ 2 ^ a.n - 1 = omega arith in
     record {
-      marked = subst (λ (k : ℕ). Below a.m a.n (ink_in a.cells.now) a.marks.now k l.marks) all l.invariant.1.marked;
-      all_idle = l.invariant.1.all_idle;
-      exact = passed_idle l.invariant.1 all;
+      marked = subst (λ (k : ℕ). Below a.m a.n (ink_in a.cells.now) a.marks.now k l.marks) all l.invariant.0.marked;
+      all_idle = l.invariant.0.all_idle;
+      exact = passed_idle l.invariant.0 all;
     }
-
-pub power-end-requires : goal.power-end-requires
-power-end-requires c = omega (arith, c.requires.0.inputs)

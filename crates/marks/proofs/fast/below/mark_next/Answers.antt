@@ -1,12 +1,9 @@
 -- `marks::fast::below::mark_next` meets its contract: a group with idle members has the mark of the rest; any other has the mark given by its
 -- classes, and becomes known. Assumes nothing.
-use Rattle.laws.specs.Prelude.{◌∙◌, arith, pow_mono}
-use Rattle.representatives.specs.Known.{found_most, known_next}
+use Rattle.laws.specs.Prelude.{◌∙◌, arith}
+use Rattle.representatives.specs.Known.{known_next}
 use Rattle.marks.specs.Fast.Below.{found_mark, skipped_mark, skipped_known, next_counted}
 use Rattle.marks.proofs.fast.below.mark_next.Goals as goal
-
-pub idle_mark-requires : goal.idle_mark-requires
-idle_mark-requires c = let pre = c.requires in omega (arith, c.if-rest-g.true, pre.1.group, pre.3)
 
 pub returns-then-rest-g : goal.returns-then-rest-g
 returns-then-rest-g c =
@@ -22,15 +19,6 @@ pub keep_group-count-requires : goal.keep_group-count-requires
 keep_group-count-requires c =
     let pre = c.requires in
     (pre.0, next_counted pre.1 c.without-rest.ensures (omega (arith, c.if-rest-g.false)))
-
-pub overflow_cast-counts : goal.overflow_cast-counts
-overflow_cast-counts c = let pre = c.requires in omega (arith, found_most c.keep_group-count.ensures.found, pre.2)
-
-pub bounds-counts-g : goal.bounds-counts-g
-bounds-counts-g c = let pre = c.requires in omega (arith, pre.1.group, pre.0.for_counts)
-
-pub mark_by-requires : goal.mark_by-requires
-mark_by-requires c = let pre = c.requires in omega (arith, pre.1.group, pow_mono pre.0.inputs, pre.3)
 
 pub returns : goal.returns
 returns c =

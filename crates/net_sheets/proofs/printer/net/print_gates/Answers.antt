@@ -1,12 +1,12 @@
 -- `net_sheets::printer::net::print_gates` meets its contract. The loop's invariant: the lines from gate k on are left to write at p.
 -- Assumes nothing.
-use Rattle.std.specs.Prelude.{◌≤◌, ◌+◌, ◌-◌, ◌*◌, ◌≡◌, ◌++◌}
-use Rattle.laws.specs.Prelude.{ℕ, sym, ap, List, le_trans, arith, take, drop}
-use Rattle.nets.specs.Room.{most_digits}
+use Rattle.std.specs.Prelude.{◌<◌, ◌+◌, ◌-◌, ◌*◌, ◌≡◌, ◌++◌}
+use Rattle.laws.specs.Prelude.{ℕ, sym, ap, List, arith, take, drop}
+use Rattle.nets.specs.declared.forms.Header.{Header}
 use Rattle.nets.specs.declared.forms.Net.{Net}
 use Rattle.nets.specs.Forms.{gate_of}
-use Rattle.net_sheets.specs.Text.Put.{NetLeft, parts_left, put_left, room_for, none_left}
-use Rattle.net_sheets.specs.Printer.Gates.{printed_gate_at, printed_gates, lines_from, lines_all, lines_next, lines_none, table_end, table_digit}
+use Rattle.net_sheets.specs.Text.Put.{NetLeft, PutRoom, parts_left, put_left, room_for, none_left}
+use Rattle.net_sheets.specs.Printer.Gates.{printed_gate_at, lines_from, lines_all, lines_next, lines_none, table_digit}
 use Rattle.net_sheets.proofs.printer.net.print_gates.Goals as goal
 
 -- the form has room for the gate and its digits
@@ -21,34 +21,31 @@ part net k =
     let e : k * size + size - k * size ≡ size = omega arith in
     ap (λ (n : ℕ). take n (drop (k * size) net.digits)) e
 
+-- what is left is the gate's line, and the later lines
+module _ (s : List ℕ) (h : Header) (net : Net) (k : ℕ) (below : k < net.gates) {out : List ℕ} {p : ℕ} {out₀ : List ℕ} {at₀ : ℕ} {t₀ : List ℕ}
+    (left : NetLeft out p (lines_from s h net k) out₀ at₀ t₀) where
+  turn : NetLeft out p (printed_gate_at s h net k ++ lines_from s h net (k + 1)) out₀ at₀ t₀
+  turn = rw (lines_next s h net k below) at left
+
+  line_room : PutRoom out p (printed_gate_at s h net k)
+  line_room = room_for (printed_gate_at s h net k) (lines_from s h net (k + 1)) turn
+
 pub print_gate-p-requires : goal.print_gate-p-requires
 unfolding gate_of
 print_gate-p-requires c =
-    let later : List ℕ = lines_from c.args.s.now c.args.h c.args.net (c.loop-k.k + 1) in
-    let this : List ℕ = printed_gate_at c.args.s.now c.args.h c.args.net c.loop-k.k in
-    let turn : NetLeft c.loop-k.out c.loop-k.p (this ++ later) c.args.out.now c.args.at (printed_gates c.args.s.now c.args.h c.args.net) =
-    rw (lines_next c.args.s.now c.args.h c.args.net c.loop-k.k c.loop-k-test.true) at c.loop-k.invariant in
     let k = c.loop-k.k in
     rw (c.wide.ensures.0, c.wide-in-loop-k.ensures.0, part c.args.net k) (
       c.requires.0,
       table_digit c.args.net c.requires.1 k c.loop-k-test.true,
-      room_for this later turn,
+      line_room _ c.args.h c.args.net k c.loop-k-test.true c.loop-k.invariant,
     )
 
 pub loop-k-preserved : goal.loop-k-preserved
 unfolding gate_of
 loop-k-preserved c =
-    let later : List ℕ = lines_from c.args.s.now c.args.h c.args.net (c.loop-k.k + 1) in
-    let this : List ℕ = printed_gate_at c.args.s.now c.args.h c.args.net c.loop-k.k in
-    let turn : NetLeft c.loop-k.out c.loop-k.p (this ++ later) c.args.out.now c.args.at (printed_gates c.args.s.now c.args.h c.args.net) =
-    rw (lines_next c.args.s.now c.args.h c.args.net c.loop-k.k c.loop-k-test.true) at c.loop-k.invariant in
-    put_left turn
-    (rw (
-      c.wide.ensures.0,
-      c.wide-in-loop-k.ensures.0,
-      part c.args.net
-          c.loop-k.k,
-    ) at c.print_gate-p.ensures)
+    let k = c.loop-k.k in
+    put_left (turn _ c.args.h c.args.net k c.loop-k-test.true c.loop-k.invariant)
+    (rw (c.wide.ensures.0, c.wide-in-loop-k.ensures.0, part c.args.net k) at c.print_gate-p.ensures)
 
 pub returns : goal.returns
 returns c =
@@ -56,24 +53,3 @@ returns c =
 
 pub loop-k-init : goal.loop-k-init
 loop-k-init c = parts_left (sym (lines_all c.args.s.now c.args.h c.args.net)) c.requires.2
-
-pub overflow_mul-size : goal.overflow_mul-size
-overflow_mul-size c =
-    let end : let size = c.args.net.levels * c.args.net.levels in c.loop-k.k * size + size ≤ most_digits =
-    le_trans (table_end c.args.net c.requires.1 c.loop-k.k c.loop-k-test.true) c.requires.1.room in
-    omega (arith, end)
-
-pub overflow_mul-from : goal.overflow_mul-from
-overflow_mul-from c =
-    let end : let size = c.args.net.levels * c.args.net.levels in c.loop-k.k * size + size ≤ most_digits =
-    le_trans (table_end c.args.net c.requires.1 c.loop-k.k c.loop-k-test.true) c.requires.1.room in
-    omega (arith, end)
-
-pub overflow_add-end : goal.overflow_add-end
-overflow_add-end c =
-    let end : let size = c.args.net.levels * c.args.net.levels in c.loop-k.k * size + size ≤ most_digits =
-    le_trans (table_end c.args.net c.requires.1 c.loop-k.k c.loop-k-test.true) c.requires.1.room in
-    omega (arith, end)
-
-pub bounds-net-k-in-loop-k : goal.bounds-net-k-in-loop-k
-bounds-net-k-in-loop-k c = (omega (arith, c.requires.1.count, c.loop-k-test.true))

@@ -1,78 +1,74 @@
 -- `net_sheets::printer::net::print_net` meets its contract: after each call, what is left to write.
 -- Assumes nothing.
-use Rattle.std.specs.Prelude.{◌∷◌, ◌++◌}
-use Rattle.laws.specs.Prelude.{ℕ, List, [], arith}
+use Rattle.std.specs.Prelude.{◌≤◌, ◌∷◌, ◌++◌}
+use Rattle.laws.specs.Prelude.{ℕ, List, [], arith, length}
 use Rattle.rules.specs.Text.{space, newline, text, decimal}
 use Rattle.rules.specs.Sheets.Printed.{line, printed_net}
-use Rattle.net_sheets.specs.Text.Put.{NetLeft, parts_left, put_left, room_for, last_put, put_wrote}
+use Rattle.nets.specs.declared.forms.Header.{Header}
+use Rattle.nets.specs.declared.forms.Net.{Net}
 use Rattle.nets.specs.Forms.{names_in, net_in}
+use Rattle.net_sheets.specs.Text.Put.{Put, PutRoom, NetLeft, parts_left, put_left, room_for, last_put, put_wrote}
 use Rattle.net_sheets.specs.Printer.Gates.{printed_gates, net_parts}
 use Rattle.net_sheets.proofs.printer.net.print_net.Goals as goal
+
+abbrev first_two : Header → List ℕ
+first_two h = line (text "levels" ∷ text "inputs" ∷ []) ++ line (decimal h.levels ∷ decimal h.inputs ∷ [])
 
 abbrev fourth : List ℕ
 fourth = line (text "left" ∷ text "right" ∷ text "table" ∷ [])
 
+module _ (s : List ℕ) (h : Header) (net : Net) (out : List ℕ) (fits : length (printed_net (net_in s h net)) ≤ length out) where
+  abbrev Rest : List ℕ → ℕ → List ℕ → Type 0
+  Rest now p t = NetLeft now p t out 0 (printed_net (net_in s h net))
+
+  start : Rest out 0 (first_two h ++ (line (names_in s h) ++ (fourth ++ printed_gates s h net)))
+  start = parts_left (net_parts s h net) (omega (arith, fits))
+
+  pair_room : PutRoom out 0 (first_two h)
+  pair_room = room_for (first_two h) _ start
+
+  module _ {a : List ℕ} {p : ℕ} (pair : Put out 0 (first_two h) a p) where
+    after_pair : Rest a p (line (names_in s h) ++ (fourth ++ printed_gates s h net))
+    after_pair = put_left start pair
+
+    names_room : PutRoom a p (line (names_in s h))
+    names_room = room_for (line (names_in s h)) _ after_pair
+
+    module _ {b : List ℕ} {q : ℕ} (names : Put a p (line (names_in s h)) b q) where
+      after_names : Rest b q (fourth ++ printed_gates s h net)
+      after_names = put_left after_pair names
+
+      fourth_room : PutRoom b q fourth
+      fourth_room = room_for fourth _ after_names
+
+      module _ {d : List ℕ} {r : ℕ} (heading : Put b q fourth d r) where
+        after_fourth : Rest d r (printed_gates s h net)
+        after_fourth = put_left after_names heading
+
 pub print_pair-p-requires : goal.print_pair-p-requires
 unfolding line text space newline
-print_pair-p-requires c =
-    let first_two_of : List ℕ = line (text "levels" ∷ text "inputs" ∷ []) ++ line (decimal c.args.h.levels ∷ decimal c.args.h.inputs ∷ []) in
-    let gates : List ℕ = printed_gates c.args.s.now c.args.h c.args.net in
-    let sheet : List ℕ = printed_net (net_in c.args.s.now c.args.h c.args.net) in
-    let Rest : List ℕ → ℕ → List ℕ → Type 0 = λ out at t. NetLeft out at t c.args.out.now 0 sheet in
-    let third : List ℕ = line (names_in c.args.s.now c.args.h) in
-    let start : Rest c.args.out.now 0 (first_two_of ++ (third ++ (fourth ++ gates))) = parts_left (net_parts c.args.s.now c.args.h c.args.net) (omega (arith, c.requires.2)) in
-    room_for first_two_of (third ++ (fourth ++ gates)) start
+print_pair-p-requires c = pair_room c.args.s.now c.args.h c.args.net c.args.out.now c.requires.2
 
 pub print_names_line-p-requires : goal.print_names_line-p-requires
 unfolding line text space newline
 print_names_line-p-requires c =
-    let sheet : List ℕ = printed_net (net_in c.args.s.now c.args.h c.args.net) in
-    let Rest : List ℕ → ℕ → List ℕ → Type 0 = λ out at t. NetLeft out at t c.args.out.now 0 sheet in
-    let gates : List ℕ = printed_gates c.args.s.now c.args.h c.args.net in
-    let first_two_of : List ℕ = line (text "levels" ∷ text "inputs" ∷ []) ++ line (decimal c.args.h.levels ∷ decimal c.args.h.inputs ∷ []) in
-    let third : List ℕ = line (names_in c.args.s.now c.args.h) in
-    let start : Rest c.args.out.now 0 (first_two_of ++ (third ++ (fourth ++ gates))) = parts_left (net_parts c.args.s.now c.args.h c.args.net) (omega (arith, c.requires.2)) in
-    let after_pair : Rest c.print_pair-p.new.out c.print_pair-p.result (third ++ (fourth ++ gates)) = put_left start c.print_pair-p.ensures in
-    (c.requires.0, room_for third (fourth ++ gates) after_pair)
+    (c.requires.0, names_room c.args.s.now c.args.h c.args.net c.args.out.now c.requires.2 c.print_pair-p.ensures)
 
 pub copy-p-requires : goal.copy-p-requires
 unfolding line text space newline
 copy-p-requires c =
-    let sheet : List ℕ = printed_net (net_in c.args.s.now c.args.h c.args.net) in
-    let Rest : List ℕ → ℕ → List ℕ → Type 0 = λ out at t. NetLeft out at t c.args.out.now 0 sheet in
-    let gates : List ℕ = printed_gates c.args.s.now c.args.h c.args.net in
-    let first_two_of : List ℕ = line (text "levels" ∷ text "inputs" ∷ []) ++ line (decimal c.args.h.levels ∷ decimal c.args.h.inputs ∷ []) in
-    let third : List ℕ = line (names_in c.args.s.now c.args.h) in
-    let start : Rest c.args.out.now 0 (first_two_of ++ (third ++ (fourth ++ gates))) = parts_left (net_parts c.args.s.now c.args.h c.args.net) (omega (arith, c.requires.2)) in
-    let after_pair : Rest c.print_pair-p.new.out c.print_pair-p.result (third ++ (fourth ++ gates)) = put_left start c.print_pair-p.ensures in
-    let after_names : Rest c.print_names_line-p.new.out c.print_names_line-p.result (fourth ++ gates) = put_left after_pair c.print_names_line-p.ensures in
-    room_for fourth gates after_names
+    fourth_room c.args.s.now c.args.h c.args.net c.args.out.now c.requires.2 c.print_pair-p.ensures c.print_names_line-p.ensures
 
 pub print_gates-requires : goal.print_gates-requires
 unfolding line text space newline
 print_gates-requires c =
-    let sheet : List ℕ = printed_net (net_in c.args.s.now c.args.h c.args.net) in
-    let Rest : List ℕ → ℕ → List ℕ → Type 0 = λ out at t. NetLeft out at t c.args.out.now 0 sheet in
-    let gates : List ℕ = printed_gates c.args.s.now c.args.h c.args.net in
-    let first_two_of : List ℕ = line (text "levels" ∷ text "inputs" ∷ []) ++ line (decimal c.args.h.levels ∷ decimal c.args.h.inputs ∷ []) in
-    let third : List ℕ = line (names_in c.args.s.now c.args.h) in
-    let start : Rest c.args.out.now 0 (first_two_of ++ (third ++ (fourth ++ gates))) = parts_left (net_parts c.args.s.now c.args.h c.args.net) (omega (arith, c.requires.2)) in
-    let after_pair : Rest c.print_pair-p.new.out c.print_pair-p.result (third ++ (fourth ++ gates)) = put_left start c.print_pair-p.ensures in
-    let after_names : Rest c.print_names_line-p.new.out c.print_names_line-p.result (fourth ++ gates) = put_left after_pair c.print_names_line-p.ensures in
-    let after_fourth : Rest c.copy-p.new.out c.copy-p.result gates = put_left after_names c.copy-p.ensures in
-    (c.requires.0, c.requires.1, after_fourth.room)
+    let a = c.args in
+    let gates = after_fourth a.s.now a.h a.net a.out.now c.requires.2 c.print_pair-p.ensures c.print_names_line-p.ensures c.copy-p.ensures in
+    (c.requires.0, c.requires.1, gates.room)
 
 pub returns : goal.returns
 unfolding line text space newline
 returns c =
-    let sheet : List ℕ = printed_net (net_in c.args.s.now c.args.h c.args.net) in
-    let Rest : List ℕ → ℕ → List ℕ → Type 0 = λ out at t. NetLeft out at t c.args.out.now 0 sheet in
-    let gates : List ℕ = printed_gates c.args.s.now c.args.h c.args.net in
-    let first_two_of : List ℕ = line (text "levels" ∷ text "inputs" ∷ []) ++ line (decimal c.args.h.levels ∷ decimal c.args.h.inputs ∷ []) in
-    let third : List ℕ = line (names_in c.args.s.now c.args.h) in
-    let start : Rest c.args.out.now 0 (first_two_of ++ (third ++ (fourth ++ gates))) = parts_left (net_parts c.args.s.now c.args.h c.args.net) (omega (arith, c.requires.2)) in
-    let after_pair : Rest c.print_pair-p.new.out c.print_pair-p.result (third ++ (fourth ++ gates)) = put_left start c.print_pair-p.ensures in
-    let after_names : Rest c.print_names_line-p.new.out c.print_names_line-p.result (fourth ++ gates) = put_left after_pair c.print_names_line-p.ensures in
-    let after_fourth : Rest c.copy-p.new.out c.copy-p.result gates = put_left after_names c.copy-p.ensures in
-    put_wrote c.requires.2
-    (last_put after_fourth c.print_gates.ensures)
+    let a = c.args in
+    let gates = after_fourth a.s.now a.h a.net a.out.now c.requires.2 c.print_pair-p.ensures c.print_names_line-p.ensures c.copy-p.ensures in
+    put_wrote c.requires.2 (last_put gates c.print_gates.ensures)

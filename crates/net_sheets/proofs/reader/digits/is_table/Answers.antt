@@ -1,33 +1,29 @@
--- `net_sheets::reader::digits::is_table` meets its contract. The loop's invariant: all are digits exactly when the rest is.
+-- `net_sheets::reader::digits::is_table` meets its contract: the digits are tested one by one.
 -- Assumes nothing.
-use Rattle.laws.specs.Prelude.{◌∙◌, sym, mul-le-mul, lt_of_le_of_lt, arith, lit<}
-use Rattle.laws.specs.Lists.Walks.{all_next, all_stop, all_end}
-use Rattle.net_sheets.specs.Reader.Digits.{net_digit_low, net_digit_high, digit_good, table_long, table_digits}
+use Rattle.std.specs.Prelude.{◌≡◌, ◌&&◌, ◌∷◌}
+use Rattle.std.specs.List.{list_all}
+use Rattle.std.proofs.lemmas.Iterator.{YieldsList-from_slice}
+use Rattle.std.proofs.lemmas.Iterator.Search.{all_from_yields_List}
+use Rattle.laws.specs.Prelude.{ℕ, ◌∙◌, refl, Bool, true, false, List, [], rules}
+use Rattle.rules.specs.Lists.{all}
+use Rattle.rules.specs.Text.{is_digit}
+use Rattle.net_sheets.specs.Reader.Digits.{table_long, table_digits}
 use Rattle.net_sheets.proofs.reader.digits.is_table.Goals as goal
 
-pub overflow_mul-m : goal.overflow_mul-m
-overflow_mul-m c = record { fits = lt_of_le_of_lt (mul-le-mul c.requires c.requires) (lit< tt) }
+all_same : (test : ℕ → Bool) (xs : List ℕ) → list_all test xs ≡ all test xs
+unfolding all
+all_same test [] = refl
+all_same test (x ∷ xs) = go (test x) (all_same test xs)
+  where
+    go : (t : Bool) → list_all test xs ≡ all test xs → (t && list_all test xs) ≡ elim t [ true ↦ all test xs | false ↦ false ]
+    go true e = e
+    go false e = refl
 
 pub returns-then-w-m : goal.returns-then-w-m
 returns-then-w-m c = table_long _ _ c.if-w-m.true
 
-pub loop-i-init : goal.loop-i-init
-loop-i-init c = table_digits _ _ c.if-w-m.false
-
-pub overflow_cast-b : goal.overflow_cast-b
-overflow_cast-b c = omega (arith, c.shared_slice_known-1.given c.loop-i.i)
-
-pub returns-then-b-lt-ZERO : goal.returns-then-b-lt-ZERO
-returns-then-b-lt-ZERO c =
-    sym (all_stop _ _ c.loop-i.i c.loop-i-test.true (net_digit_low _ _ c.if-b-lt-ZERO.true)) ∙ c.loop-i.invariant
-
-pub returns-then-m-b : goal.returns-then-m-b
-returns-then-m-b c =
-    sym (all_stop _ _ c.loop-i.i c.loop-i-test.true (net_digit_high _ _ c.if-m-b.true)) ∙ c.loop-i.invariant
-
-pub loop-i-preserved : goal.loop-i-preserved
-loop-i-preserved c =
-    all_next _ _ c.loop-i.i c.loop-i-test.true (digit_good _ _ c.if-b-lt-ZERO.false c.if-m-b.false) ∙ c.loop-i.invariant
-
 pub returns : goal.returns
-returns c = sym (all_end _ _ c.loop-i.i c.loop-i-test.false) ∙ c.loop-i.invariant
+unfolding is_digit
+returns c =
+    all_from_yields_List (is_digit c.args.m) _ _ c.all.result c.all.ensures.ran (YieldsList-from_slice c.args.w.now cc) (λ x b q k. search rules)
+    ∙ (all_same _ _ ∙ table_digits _ _ c.if-w-m.false)

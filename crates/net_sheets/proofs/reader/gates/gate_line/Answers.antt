@@ -1,16 +1,14 @@
 -- `net_sheets::reader::gates::gate_line` meets its contract: the left field, then the rest.
 -- Assumes nothing.
+use Rattle.std.proofs.lemmas.Result.{err_from_is_err_and}
 use Rattle.net_sheets.specs.Reader.Gates.{left_back, left_on}
 use Rattle.net_sheets.proofs.reader.gates.gate_line.Goals as goal
 
-pub from_right-requires : goal.from_right-requires
-from_right-requires c =
-    let pre = c.requires in
-    (pre.0, pre.1, c.reference_field.ensures.below _ _ c.in-On.is)
+pub returns-in_err-left : goal.returns-in_err-left
+returns-in_err-left c =
+    let p = err_from_is_err_and c.from_residual.result c.from_residual.ensures.1 in
+    rw (p.1, p.2) (left_back _ _ _ _ _ _ _ _ _ c.reference_field.ensures _ c.in_err-left.was)
 
-pub returns-in-Back : goal.returns-in-Back
-returns-in-Back c = left_back _ _ _ _ _ _ _ _ _ c.reference_field.ensures _ _ c.in-Back.is
-
-pub returns-in-On : goal.returns-in-On
-returns-in-On c =
-    left_on _ _ _ _ _ _ _ _ _ c.reference_field.ensures _ _ _ _ c.in-On.is c.from_right.ensures
+pub returns : goal.returns
+returns c =
+    left_on _ _ _ _ _ _ _ _ _ c.reference_field.ensures _ _ _ c.in_ok-left.was c.from_right.ensures

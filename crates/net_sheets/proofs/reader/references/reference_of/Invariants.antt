@@ -11,6 +11,3 @@ abbrev pub invariant-loop-r : goal.invariant-loop-r
 invariant-loop-r l =
     (names : List (List ℕ)) → Keyed names l.keys l.lens l.count
     → find (λ k. same l.w (reference_text names k)) (range l.r (l.count - l.r)) ≡ find (λ k. same l.w (reference_text names k)) (range 0 l.count)
-
-abbrev pub decreases-loop-r : goal.decreases-loop-r
-decreases-loop-r l = l.count - l.r

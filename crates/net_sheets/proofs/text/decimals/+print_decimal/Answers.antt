@@ -19,9 +19,6 @@ module _ (out : List ℕ) (at k after : ℕ) (room : PutRoom out at (decimal k +
   unfolding digit_byte
   more_left h = parts_left (ap (λ (w : List ℕ). w ++ (after ∷ [])) (decimal_more k h)) room
 
-pub put-p-requires : goal.put-p-requires
-put-p-requires t c = let a = c.args in room_byte (one_left a.out.now a.at a.k a.after c.requires c.if-k-lt10.true)
-
 pub put-requires : goal.put-requires
 put-requires t c = let a = c.args in
     room_byte (put_left (one_left a.out.now a.at a.k a.after c.requires c.if-k-lt10.true) c.put-p.ensures)

@@ -1,20 +1,14 @@
--- `net_sheets::text::put::copy` meets its contract. The loop's invariant: the bytes of `t` from i on are left to write at p.
+-- `net_sheets::text::put::copy` meets its contract: a part of the buffer becomes the text.
 -- Assumes nothing.
-use Rattle.laws.specs.Prelude.{arith, length-drop}
-use Rattle.net_sheets.specs.Text.Put.{all_left, next_left, past_left}
+use Rattle.std.specs.Prelude.{◌≤◌, ◌+◌, ◌-◌, ◌≡◌}
+use borrow.Rule.Slice.PartMut.{put_mid}
+use Rattle.laws.specs.Prelude.{ℕ, List, sym, refl, arith, length, append_assoc, drop-drop, sets, sets-eq}
 use Rattle.net_sheets.proofs.text.put.copy.Goals as goal
 
-pub loop-i-init : goal.loop-i-init
-loop-i-init c = (omega arith, all_left c.requires)
-
-pub bounds-out-p : goal.bounds-out-p
-bounds-out-p c = omega (arith, length-drop c.loop-i.i c.args.t.now)
-
-pub overflow_add-p : goal.overflow_add-p
-overflow_add-p c = omega (arith, length-drop c.loop-i.i c.args.t.now)
-
-pub loop-i-preserved : goal.loop-i-preserved
-loop-i-preserved c = (omega arith, next_left c.args.t.now c.loop-i.i (omega arith) c.loop-i.invariant.1)
+written : (at : ℕ) (t part out : List ℕ) → at + length t ≤ length out → part ≡ t → put_mid at (at + length t - at) out part ≡ sets out at t
+written at t part out room is =
+    let count : at + length t - at ≡ length t = omega arith in
+    rw (count, is, drop-drop (length t) at out, ← append_assoc) (sym (sets-eq t out at room))
 
 pub returns : goal.returns
-returns c = past_left c.args.t.now c.loop-i.i c.loop-i-test.false c.loop-i.invariant.1
+returns c = record { text = written _ _ _ _ c.requires c.copy_from_slice.ensures.after; end = refl }

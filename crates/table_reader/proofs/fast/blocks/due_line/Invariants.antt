@@ -1,19 +1,16 @@
 -- `table_reader::fast::blocks::due_line` meets its contract. The loop's invariant: the rows before the line and l rows of it are read.
 -- Assumes nothing.
-use Rattle.std.specs.Prelude.{◌≤◌, ◌+◌, ◌-◌, ◌*◌, ◌≡◌}
-use Rattle.laws.specs.Prelude.{ℕ, length}
-use Rattle.laws.specs.Prelude.{take}
+use Rattle.std.specs.Prelude.{◌+◌, ◌*◌, ◌≡◌}
+use Rattle.laws.specs.Prelude.{ℕ, take}
 use Rattle.table_reader.specs.Fast.Rows.{TableReached}
 use Rattle.table_reader.specs.Fast.Due.{row_bytes}
 use Rattle.table_reader.proofs.fast.blocks.due_line.Given as goal
 
 abbrev pub invariant-loop-l : goal.invariant-loop-l
-invariant-loop-l l =
-    (l.l ≤ l.m)
-    × (l.place ≡ l.at + l.l * row_bytes l.front)
-    × (length l.cells ≡ length l.initial.cells)
-    × (take (l.q * l.m) l.cells ≡ take (l.q * l.m) l.initial.cells)
-    × ((start : ℕ) → TableReached l.s start l.m (l.front + 1 + 1) l.initial.cells l.at (l.q * l.m) → TableReached l.s start l.m (l.front + 1 + 1) l.cells l.place (l.q * l.m + l.l))
-
-abbrev pub decreases-loop-l : goal.decreases-loop-l
-decreases-loop-l l = l.m - l.l
+invariant-loop-l l = record {
+  place : l.place ≡ l.at + l.l * row_bytes l.front;
+  kept : take (l.q * l.m) l.cells ≡ take (l.q * l.m) l.initial.cells;
+  reached : (start : ℕ)
+      → TableReached l.s start l.m (l.front + 1 + 1) l.initial.cells l.at (l.q * l.m)
+      → TableReached l.s start l.m (l.front + 1 + 1) l.cells l.place (l.q * l.m + l.l);
+}

@@ -3,12 +3,8 @@
 use Rattle.std.specs.Prelude.{◌≤◌, ◌+◌, ◌-◌, ◌*◌, ◌≡◌}
 use Rattle.laws.specs.Prelude.{◌∙◌, sym, ap, arith, eqb-true}
 use Rattle.table_reader.specs.Fast.Words.{word_at, middle_near}
-use Rattle.table_reader.specs.Fast.Due.{not_due}
 use Rattle.table_reader.specs.Fast.Stand.{wide_stand}
 use Rattle.table_reader.proofs.fast.due_row.are_wide.Goals as goal
-
-pub returns-then-eight_bytes-words : goal.returns-then-eight_bytes-words
-returns-then-eight_bytes-words c = not_due
 
 pub overflow_mul-place : goal.overflow_mul-place
 overflow_mul-place c =
@@ -28,15 +24,12 @@ eight_bytes-requires-2 c =
     omega (arith, c.middle_of-place.ensures, (middle_near c.args.front c.requires.0 c.requires.4).0) in
     omega (arith, before_end, c.requires.0, c.requires.3)
 
-pub returns-then-eight_bytes-words-2 : goal.returns-then-eight_bytes-words-2
-returns-then-eight_bytes-words-2 c = not_due
-
 pub returns : goal.returns
 returns c e =
     let zero : c.args.at ≡ c.args.at + 2 * 0 = omega arith in
     wide_stand c.args.s.now c.args.levels.now c.args.at c.args.front c.args.words c.requires.0 c.requires.1 c.requires.2 c.requires.3
     c.requires.4
-    (c.requires.5 c.requires.0) (λ k. omega (arith, c.shared_slice_known-1.given k))
+    (c.requires.5 c.requires.0) (λ k. omega (arith, c.type_inv.s k))
     (ap (word_at c.args.s.now) (sym zero) ∙ sym c.eight_bytes.ensures ∙ c.if-eight_bytes-words.false)
     (ap (λ q. word_at c.args.s.now (c.args.at + 2 * q)) (sym c.middle_of-place.ensures) ∙ sym c.eight_bytes-2.ensures ∙ c.if-eight_bytes-words-2.false)
     (sym c.eight_bytes-3.ensures ∙ eqb-true _ _ e)

@@ -4,9 +4,6 @@ use Rattle.laws.specs.Prelude.{◌∙◌, ap, arith}
 use Rattle.table_reader.specs.Fast.Words.{due_word, middle_near}
 use Rattle.table_reader.proofs.fast.words.words_of.Goals as goal
 
-pub returns-then-front-lt4 : goal.returns-then-front-lt4
-returns-then-front-lt4 c wide = absurd (omega (arith, c.if-front-lt4.true, wide))
-
 pub due_four-middle-requires : goal.due_four-middle-requires
 due_four-middle-requires c =
     omega (arith, c.middle_of.ensures, (middle_near c.args.front c.if-front-lt4.false c.requires.1).0, c.requires.0, c.if-front-lt4.false)

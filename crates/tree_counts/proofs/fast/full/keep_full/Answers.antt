@@ -1,7 +1,7 @@
 -- `tree_counts::fast::full::keep_full` meets its contract. The loop's invariant: the recorded counts are right, and the parts passed have mark 2, so
 -- the next one, if it has mark 2, is full. Assumes nothing.
-use Rattle.std.specs.Prelude.{◌<◌, ◌≤◌, ◌-◌, ◌^◌, ◌≡◌}
-use Rattle.laws.specs.Prelude.{ℕ, ◌∙◌, ap, refl, List, arith, length, length-set}
+use Rattle.std.specs.Prelude.{◌<◌, ◌≤◌, ◌^◌, ◌≡◌}
+use Rattle.laws.specs.Prelude.{ℕ, ◌∙◌, ap, List, arith, length, length-set}
 use lib.Bits.{and_self}
 use Rattle.rules.specs.Limits.{most_inputs}
 use Rattle.rules.specs.Groups.Marks.{mark_in}
@@ -9,19 +9,9 @@ use Rattle.trees.specs.Groups.Members.{size_le}
 use Rattle.trees.specs.Families.FamilyCounts.{group_trees}
 use Rattle.trees.specs.Families.FamilyBounds.{trees_on}
 use Rattle.tree_counts.specs.Counts.{Countable, one_kept}
-use Rattle.tree_counts.specs.Fast.Full.{TwosTo, twos_none, twos_next, last_full, full_count}
-use Rattle.tree_counts.specs.Walking.{passed_none, passed_next}
+use Rattle.tree_counts.specs.Fast.Full.{TwosTo, twos_next, last_full, full_count}
+use Rattle.tree_counts.specs.Walking.{passed_next}
 use Rattle.tree_counts.proofs.fast.full.keep_full.Goals as goal
-
-pub loop-part-init : goal.loop-part-init
-loop-part-init c = (refl, c.requires.kept, passed_none c.args.g, twos_none c.args.marks.now c.args.g)
-
-pub next_part-part-requires : goal.next_part-part-requires
-next_part-part-requires c =
-    let g : ℕ = c.args.g in
-    let marks : List ℕ = c.args.marks.now in
-    let group : Countable marks c.args.counts.now g = c.requires in
-    (omega (arith, group.below), c.loop-part-test.true, c.loop-part.invariant.2.is_part)
 
 pub trees_on-count-requires : goal.trees_on-count-requires
 trees_on-count-requires c =
@@ -33,9 +23,6 @@ trees_on-count-requires c =
     let small : part < 2 ^ most_inputs = omega (arith, part_le, group.below) in
     let part = part in
     omega (arith, c.members_of.ensures most_inputs small, size_le most_inputs part)
-
-pub loop-part-smaller : goal.loop-part-smaller
-loop-part-smaller c = omega (arith, c.next_part-part.ensures.above, c.loop-part-test.true)
 
 pub loop-part-preserved : goal.loop-part-preserved
 loop-part-preserved c =
@@ -59,36 +46,3 @@ loop-part-preserved c =
       passed_next g c.loop-part.part part c.loop-part-test.true c.next_part-part.ensures,
       twos,
     )
-
-pub returns : goal.returns
-returns c = c.loop-part.invariant.1
-
-pub mark_at-requires : goal.mark_at-requires
-mark_at-requires c =
-    let g : ℕ = c.args.g in
-    let marks : List ℕ = c.args.marks.now in
-    let group : Countable marks c.args.counts.now g = c.requires in
-    let part : ℕ = c.next_part-part.result in
-    let part_le : part ≤ g = c.next_part-part.ensures.least g c.loop-part-test.true (and_self g) in
-    omega (arith, part_le, group.marked)
-
-pub offset_bounds-counts-part : goal.offset_bounds-counts-part
-offset_bounds-counts-part c =
-    let g : ℕ = c.args.g in
-    let marks : List ℕ = c.args.marks.now in
-    let group : Countable marks c.args.counts.now g = c.requires in
-    let part : ℕ = c.next_part-part.result in
-    let part_le : part ≤ g = c.next_part-part.ensures.least g c.loop-part-test.true (and_self g) in
-    let small : part < 2 ^ most_inputs = omega (arith, part_le, group.below) in
-    omega (arith, small)
-
-pub bounds-counts-part : goal.bounds-counts-part
-bounds-counts-part c =
-    let counts : List ℕ = c.loop-part.counts in
-    let g : ℕ = c.args.g in
-    let marks : List ℕ = c.args.marks.now in
-    let group : Countable marks c.args.counts.now g = c.requires in
-    let part : ℕ = c.next_part-part.result in
-    let part_le : part ≤ g = c.next_part-part.ensures.least g c.loop-part-test.true (and_self g) in
-    let has_room : part < length counts = omega (arith, part_le, group.room, c.loop-part.invariant.0) in
-    has_room

@@ -1,7 +1,6 @@
 -- `wirings::leaves::group::leaves` meets its contract: the inputs that matter, and others up to two. Assumes nothing.
 use Rattle.std.specs.Prelude.{◌<◌, ◌-◌, ◌^◌, ◌≡◌}
-use Rattle.laws.specs.Prelude.{arith, pow_mono}
-use Rattle.rules.specs.Limits.{most_inputs}
+use Rattle.laws.specs.Prelude.{arith}
 use Rattle.rules.specs.Groups.Groups.{others, size}
 use Rattle.trees.specs.Groups.Members.{others_below}
 use Rattle.radix.specs.Fronts.{rest_others}
@@ -20,24 +19,9 @@ returns-then-mattering-le1 c m f group =
     let used : c.power.result - 1 - c.args.idle ≡ others c.args.n c.args.idle = rest_others c.args.n c.args.idle c.power.result c.power.ensures in
     leaves_first _ _ m f group _ used c.requires.0 c.if-mattering-le1.true
 
-pub overflow_add-result : goal.overflow_add-result
-overflow_add-result c =
-    let used : c.power.result - 1 - c.args.idle ≡ others c.args.n c.args.idle = rest_others c.args.n c.args.idle c.power.result c.power.ensures in
-    let used_below : c.power.result - 1 - c.args.idle < 2 ^ c.args.n = omega (arith, used, others_below c.args.n c.args.idle) in
-    omega (arith, used_below, pow_mono {j = most_inputs} c.requires.1)
-
 pub returns : goal.returns
 returns c m f group =
     let used : c.power.result - 1 - c.args.idle ≡ others c.args.n c.args.idle = rest_others c.args.n c.args.idle c.power.result c.power.ensures in
     let used_below : c.power.result - 1 - c.args.idle < 2 ^ c.args.n = omega (arith, used, others_below c.args.n c.args.idle) in
     let counted : c.members_of.result ≡ size c.args.n (c.power.result - 1 - c.args.idle) = c.members_of.ensures c.args.n used_below in
     leaves_other _ _ m f group _ used c.requires.0 (omega (arith, c.if-mattering-le1.false)) (omega (arith, counted, c.if-members_of-ge2.false))
-
-pub power-requires : goal.power-requires
-power-requires c = omega (arith, c.requires.1)
-
-pub overflow_sub-mattering : goal.overflow_sub-mattering
-overflow_sub-mattering c = omega (arith, c.power.ensures, c.requires.2)
-
-pub overflow_sub-mattering-2 : goal.overflow_sub-mattering-2
-overflow_sub-mattering-2 c = omega (arith, c.power.ensures, c.requires.2)

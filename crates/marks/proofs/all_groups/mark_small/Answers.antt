@@ -1,8 +1,0 @@
--- `marks::all_groups::mark_small` meets its contract: its arrays are long enough. Assumes nothing.
-use Rattle.laws.specs.Numbers.Sizes.{sized}
-use Rattle.marks.specs.Fast.Below.{lent_small}
-use Rattle.marks.proofs.all_groups.mark_small.Goals as goal
-
-pub mark_with-requires : goal.mark_with-requires
-mark_with-requires c =
-    (c.requires.0, c.requires.1, lent_small (sized _ _ c.requires.0.size) c.requires.2 c.requires.3)
