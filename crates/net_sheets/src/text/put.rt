@@ -16,7 +16,9 @@ pub fn copy(t: &[u8], out: &mut [u8], at: usize) -> usize
     requires { PutRoom out.old at t.now }
     ensures { Put out.old at t.now out.new result }
 {
-    let end = at + t.len();
-    out[at..end].copy_from_slice(t);
-    end
+    // With `copy_from_slice` the archive for C would need `memmove` from outside.
+    for i in 0..t.len() {
+        out[at + i] = t[i];
+    }
+    at + t.len()
 }

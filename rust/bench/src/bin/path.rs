@@ -5,11 +5,15 @@ use std::collections::{BTreeMap, BTreeSet};
 use std::fs;
 use std::path::{Path, PathBuf};
 
-/// One source file: its module path starting with the crate, its imports, and the body of each of its functions.
+type Modules = BTreeMap<Vec<String>, Module>;
+
+/// One source file: its module path starting with the crate, its imports, the body of each of its functions, and the names of its methods, which take
+/// `self`. Functions of one name, as `from` of two impls, are one here.
 struct Module {
     path: Vec<String>,
     imports: BTreeMap<String, Vec<String>>,
     functions: BTreeMap<String, String>,
+    methods: BTreeSet<String>,
 }
 
 fn sources(folder: &Path, found: &mut Vec<PathBuf>) {
@@ -80,6 +84,7 @@ fn read_module(krate: &str, root: &Path, file: &Path) -> Module {
         path,
         imports: BTreeMap::new(),
         functions: BTreeMap::new(),
+        methods: BTreeSet::new(),
     };
     let mut current = None;
     for line in text.lines() {
@@ -91,7 +96,10 @@ fn read_module(krate: &str, root: &Path, file: &Path) -> Module {
                 module.imports.insert(name, full);
             }
         } else if let Some(name) = defined(line) {
-            module.functions.insert(name.clone(), String::new());
+            module.functions.entry(name.clone()).or_default();
+            if line.contains("self") {
+                module.methods.insert(name.clone());
+            }
             current = Some(name);
         } else if let Some(body) = current
             .as_ref()
@@ -115,24 +123,52 @@ fn without_arguments(text: &str) -> &str {
     }
 }
 
-/// Returns the paths that a body calls: the words before each `(`, split at `::`.
+/// Returns the paths that a body calls: the words before each `(`, split at `::`. A method's has an empty word in front.
 fn calls(body: &str) -> Vec<Vec<String>> {
     let mut found = Vec::new();
     for (at, _) in body.match_indices('(') {
-        let word: Vec<char> = without_arguments(&body[..at])
+        let before = without_arguments(&body[..at]);
+        let word: Vec<char> = before
             .chars()
             .rev()
             .take_while(|c| c.is_alphanumeric() || matches!(c, '_' | ':'))
             .collect();
         let word: String = word.into_iter().rev().collect();
         if !word.is_empty() {
-            found.push(word.split("::").map(str::to_string).collect());
+            let is_method = before[..before.len() - word.len()].ends_with('.');
+            let front = if is_method { vec![""] } else { vec![] };
+            let words = front.into_iter().chain(word.split("::"));
+            found.push(words.map(str::to_string).collect());
         }
     }
     found
 }
 
-fn resolve(module: &Module, called: &[String]) -> Vec<String> {
+/// Returns the path of a method that a module calls: of its own methods and of those in the files of the types that it imports, the one of that name.
+fn resolve_method(modules: &Modules, module: &Module, name: &String) -> Vec<String> {
+    let of_types = module.imports.values().map(|full| &full[..full.len() - 1]);
+    let found = of_types.chain([&module.path[..]]).find(|path| {
+        modules
+            .get(*path)
+            .is_some_and(|other| other.methods.contains(name))
+    });
+    let path = found.unwrap_or_default();
+    path.iter().chain([name]).cloned().collect()
+}
+
+/// Returns the path of a function that a module calls, without the type that it may belong to, as in `SitgurpAnswer::from`.
+fn resolve(modules: &Modules, module: &Module, called: &[String]) -> Vec<String> {
+    if called[0].is_empty() {
+        return resolve_method(modules, module, &called[1]);
+    }
+    let mut full = resolve_plain(module, called);
+    if full.len() > 2 && !modules.contains_key(&full[..full.len() - 1]) {
+        full.remove(full.len() - 2);
+    }
+    full
+}
+
+fn resolve_plain(module: &Module, called: &[String]) -> Vec<String> {
     if called[0] == "crate" {
         let mut full = called.to_vec();
         full[0] = module.path[0].clone();
@@ -152,7 +188,7 @@ fn main() {
         .nth(1)
         .unwrap_or_else(|| "sitgurp_make".to_string());
     let crates = Path::new(env!("CARGO_MANIFEST_DIR")).join("../../crates");
-    let mut modules = BTreeMap::new();
+    let mut modules = Modules::new();
     for entry in fs::read_dir(&crates).expect("the folder crates").flatten() {
         let krate = entry.file_name().to_string_lossy().into_owned();
         let root = entry.path().join("src");
@@ -180,7 +216,11 @@ fn main() {
             continue;
         };
         if reached.insert(function.clone()) {
-            todo.extend(calls(body).iter().map(|called| resolve(module, called)));
+            todo.extend(
+                calls(body)
+                    .iter()
+                    .map(|called| resolve(&modules, module, called)),
+            );
         }
     }
     let files: BTreeSet<&[String]> = reached

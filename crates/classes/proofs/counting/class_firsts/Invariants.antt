@@ -7,6 +7,6 @@ use Rattle.classes.specs.Counting.{FirstsFound}
 use Rattle.classes.proofs.KeptChains.{Chained}
 use Rattle.classes.proofs.counting.class_firsts.Given as goal
 
-abbrev pub invariant-loop-p : goal.invariant-loop-p
-invariant-loop-p l =
-    FirstsFound (ink_in l.cells) (length l.cells) l.ys l.xs l.enough l.firsts l.count l.p-index × Chained l.m (ink_in l.cells) l.ys l.width l.firsts l.links l.heads l.count
+abbrev pub invariant-loop-i : goal.invariant-loop-i
+invariant-loop-i l =
+    FirstsFound (ink_in l.cells) (length l.cells) l.ys l.xs l.enough l.firsts l.count l.i × Chained l.m (ink_in l.cells) l.ys l.width l.firsts l.links l.heads l.count
