@@ -9,6 +9,7 @@ use Rattle.rules.specs.Calls.Settling.{written_sheet}
 use Rattle.rules.specs.Calls.Keeping.{Keeping, rewritten, turned_away, KeptWiring, kept_net, roomy_before, leaves_out, changed_gates}
 use Rattle.answers.specs.AnswerMaps.{named_of}
 use Rattle.answers.specs.Kinds.{number_of}
+use Rattle.answers.specs.declared.named.Named.{Named}
 use Rattle.answers.specs.declared.named.SheetRefusal.{SheetRefusal}
 use Rattle.keeping.specs.declared.answer.Kept.{Kept}
 
@@ -18,6 +19,11 @@ turned_by e = turned_away (named_of e.named) (number_of e.refusal.kind) e.refusa
 abbrev pub keeping_of : Result Kept SheetRefusal → Keeping
 keeping_of (Ok kept) = rewritten kept.length kept.changed
 keeping_of (Err e) = turned_by e
+
+-- an answer whose refusal is of any type, with the sheet that it names, by a reading of the refusal's number and place
+abbrev pub keeping_by : {R : Type 0} → (R → ℕ) → (R → ℕ) → Result Kept (Named × R) → Keeping
+keeping_by number place (Ok kept) = rewritten kept.length kept.changed
+keeping_by number place (Err e) = turned_away (named_of e.0) (number e.1) (place e.1)
 
 -- the answer, and the two buffers after the call
 abbrev pub kept_one_of : Result Kept SheetRefusal → List ℕ → List ℕ → KeptWiring

@@ -2,7 +2,8 @@
 ghost use Rattle.std.specs.Prelude.{◌≡◌};
 ghost use Rattle.nets.specs.Forms.{net_in, table_in};
 ghost use Rattle.accepted.specs.Taken.{NetTaken, Given};
-ghost use Rattle.keeping.specs.KeepAnswers.{kept_one_of, filled_into, full_into};
+ghost use Rattle.settling.specs.Answered.{kind_number};
+ghost use Rattle.keeping.specs.KeepAnswers.{keeping_by, keeping_of, kept_one_of, filled_into, full_into};
 ghost use Rattle.keeping.specs.Rewriting.{KeepingReady};
 
 use crate::answer::{Kept, with_changed};
@@ -15,6 +16,16 @@ use gate_tables::fill::fill_while_few;
 use net_sheets::printer::output::write_sheet;
 use net_sheets::text::put::copy;
 use nets::forms::{Header, Net};
+
+// Returns the answer with a refusal and the sheet that it names as one value.
+fn by_sheet(answer: Result<Kept, (Named, Refusal)>) -> Result<Kept, SheetRefusal>
+    ensures { keeping_of result ≡ keeping_by kind_number (λ e. e.place) answer }
+{
+    match answer {
+        Ok(kept) => Ok(kept),
+        Err((named, refusal)) => Err(SheetRefusal { named, refusal }),
+    }
+}
 
 // Writes the inks to the cells buffer, then returns refusal 23 at 0 or at a gate, refusal 15, or the sheet.
 fn keep_filled(
@@ -51,7 +62,7 @@ fn keep_filled(
         });
     }
     let changed = changed_gates(net, filled);
-    with_changed(write_sheet(s, header, filled, out), changed)
+    by_sheet(with_changed(write_sheet(s, header, filled, out), changed))
 }
 
 // Keeps a wiring for a full table, or refuses with 13.

@@ -1,13 +1,10 @@
 -- What a program's output function returns: the text that the program prints, followed by zeros.
 -- Assumes nothing.
-use Rattle.std.specs.Prelude.{◌≤◌, ◌-◌, ◌≡◌, ◌++◌, Result, Ok, Err}
+use Rattle.std.specs.Prelude.{◌≤◌, ◌-◌, ◌≡◌, ◌++◌}
 use Rattle.laws.specs.Prelude.{ℕ, suc, zero, ◌∙◌, sym, ap, refl, subst, List, sub-zero, min-le_right, suc-sub-suc, zero-sub, arith}
 use Rattle.laws.specs.Prelude.{length, take, drop, length-append, length-take, length-replicate, length-take-le}
-use Rattle.rules.specs.Calls.Answers.{written}
+use Rattle.rules.specs.Calls.Answers.{Answer, accepted, refused, written}
 use Rattle.rules.specs.Calls.Programs.{refusal_lines, program_output, zeros}
-use Rattle.answers.specs.AnswerMaps.{answer_of}
-use Rattle.answers.specs.Kinds.{number_of}
-use Rattle.answers.specs.declared.refusal.Refusal.{Refusal}
 use Rattle.net_sheets.specs.Text.Put.{PutRoom, Put, NetWrote, put_wrote}
 
 -- The bytes are the text and then zeros, and `count` is the text's length.
@@ -38,20 +35,19 @@ wrote_prints n text after count did =
 
 -- ---- what is printed for a call's answer and output
 
-module _ (n : ℕ) (output : List ℕ) (answer : Result ℕ Refusal) (k : ℕ) (is : answer ≡ Ok k) (t : List ℕ) (front : t ≡ take k output) where
+module _ (n : ℕ) (output : List ℕ) (answer : Answer ℕ) (k : ℕ) (is : answer ≡ accepted k) (t : List ℕ) (front : t ≡ take k output) where
   -- the front of an output fits into the array if the output is no longer than the array
   pub front_room : length output ≤ n → PutRoom (zeros n) 0 t
   front_room room = omega (arith, min-le_right k (length output), ap length front ∙ length-take k output, length-replicate {A = ℕ} n 0)
 
   pub sheet_prints : (after : List ℕ) (count : ℕ) → length output ≤ n → Put (zeros n) 0 t after count
-      → Prints after count (program_output (answer_of answer) output)
+      → Prints after count (program_output answer output)
   unfolding program_output
   sheet_prints after count room put =
       let fits : length t ≤ length (zeros n) = omega (arith, front_room room) in
       rw is (subst (λ u. Prints after count u) front (wrote_prints n t after count (put_wrote fits put)))
 
-pub refusal_prints : (n : ℕ) (output : List ℕ) (answer : Result ℕ Refusal) (e : Refusal) → answer ≡ Err e → (number : ℕ) → number ≡ number_of e.kind
-    → (after : List ℕ) (count : ℕ) → NetWrote (zeros n) (refusal_lines number e.place) after count
-    → Prints after count (program_output (answer_of answer) output)
+pub refusal_prints : (n : ℕ) (output : List ℕ) (answer : Answer ℕ) (number place : ℕ) → answer ≡ refused number place
+    → (after : List ℕ) (count : ℕ) → NetWrote (zeros n) (refusal_lines number place) after count → Prints after count (program_output answer output)
 unfolding program_output
-refusal_prints n output answer e is number told after count did = rw (is, ← told) (wrote_prints n _ after count did)
+refusal_prints n output answer number place is after count did = rw is (wrote_prints n _ after count did)

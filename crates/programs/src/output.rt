@@ -3,12 +3,11 @@ ghost use Rattle.std.specs.Prelude.{◌≤◌, length};
 ghost use Rattle.rules.specs.Limits.{most_read};
 ghost use Rattle.rules.specs.Calls.Programs.{program_output, settle_program, make_program};
 ghost use Rattle.rules.specs.Calls.Tidying.{tidy_program};
-ghost use Rattle.answers.specs.AnswerMaps.{answer_of};
 ghost use Rattle.programs.specs.Prints.{Prints};
+ghost use Rattle.settling.specs.Answered.{plain_by};
 
 use crate::input::{first_read, front};
-use crate::refusal::print_refusal;
-use answers::refusal::Refusal;
+use crate::refusal::{Numbered, print_refusal};
 use loose_sheets::tidy::tidy;
 use marks::packing;
 use net_sheets::text::put::copy;
@@ -22,10 +21,10 @@ pub struct Printed {
     pub length: usize,
 }
 
-// Returns what a program prints for its call's answer and output.
-pub fn output_of(answer: Result<usize, Refusal>, out: &[u8]) -> Printed
+// Returns what a program prints for its call's answer and output, whatever the number and the place of a refusal.
+pub fn output_of<R: Numbered>(answer: Result<usize, R>, out: &[u8]) -> Printed
     requires { length out.now ≤ most_read }
-    ensures { Prints result.bytes result.length (program_output (answer_of answer) out.now) }
+    ensures { Prints result.bytes result.length (program_output (plain_by R.number R.place answer) out.now) }
 {
     let mut bytes = [0u8; limits::MOST_READ];
     match answer {
@@ -34,7 +33,8 @@ pub fn output_of(answer: Result<usize, Refusal>, out: &[u8]) -> Printed
             Printed { bytes, length }
         }
         Err(refusal) => {
-            let length = print_refusal(refusal.kind.number(), refusal.place, &mut bytes);
+            let (number, place) = refusal.number_and_place();
+            let length = print_refusal(number, place, &mut bytes);
             Printed { bytes, length }
         }
     }

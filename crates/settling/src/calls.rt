@@ -1,18 +1,18 @@
 // Settling and making: the calls of document 01. The sheet may be any bytes, and the buffers may have any length.
-ghost use Rattle.std.specs.Prelude.{◌≡◌};
+ghost use Rattle.std.specs.Prelude.{◌≡◌, ℕ};
 ghost use Rattle.rules.specs.Calls.Settling.{settle_call, make_call};
 ghost use Rattle.laws.specs.Calls.ShallowSettling.{plain_answer};
-ghost use Rattle.answers.specs.AnswerMaps.{answer_of, made_of};
-ghost use Rattle.answers.specs.Layered.{layered_of};
+ghost use Rattle.answers.specs.AnswerMaps.{made_of};
+ghost use Rattle.settling.specs.Answered.{plain_by, layered_by};
 
 use crate::chosen;
 use answers::layered::Layered;
 use answers::refusal::Refusal;
 use wirings::choice::Choice;
 
-// Drops the count of layers from an answer.
-pub fn length_alone(answer: Result<Layered, Refusal>) -> Result<usize, Refusal>
-    ensures { answer_of result ≡ plain_answer (layered_of answer) }
+// Drops the count of layers from an answer. A refusal may be of any type, and stays the same by any reading of its number and place.
+pub fn length_alone<R>(answer: Result<Layered, R>) -> Result<usize, R>
+    ensures { (number place : R → ℕ) → plain_by number place result ≡ plain_answer (layered_by number place answer) }
 {
     Ok(answer?.length)
 }

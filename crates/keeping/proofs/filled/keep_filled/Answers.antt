@@ -1,10 +1,12 @@
 -- `keeping::filled::keep_filled` meets its contract: the inks are copied, then 23 at 0 or at a gate, or the new sheet. Assumes nothing.
-use Rattle.laws.specs.Prelude.{◌∙◌, sym, arith}
+use Rattle.laws.specs.Prelude.{◌∙◌, sym, ap, arith}
 use Rattle.nets.specs.Sound.{gates_count}
 use Rattle.net_sheets.specs.Text.Put.{put_wrote}
 use Rattle.accepted.specs.Taken.{sound}
+use Rattle.settling.specs.Answered.{plain_by_kind}
 use Rattle.settling.specs.Outcomes.{made_inside, settling_made_short}
 use Rattle.keeping.specs.Groups.{kept_blank}
+use Rattle.keeping.specs.KeepAnswers.{with_changed}
 use Rattle.keeping.specs.Rewriting.{table_sized, left_told, first_told, filled_roomy, filled_all, filled_net, filled_told}
 use Rattle.keeping.proofs.filled.keep_filled.Goals as goal
 
@@ -46,4 +48,5 @@ pub returns : goal.returns
 returns c =
     filled_told _ _ _ _ _ c.requires _ c.wiring_of.ensures _ c.fill_while_few-filled.ensures c.if-roomy-net.false
     (sym c.leaves_out.ensures ∙ c.if-leaves_out.false) _ _ (put_wrote c.requires.long c.copy.ensures).text
-    c.write_sheet.result _ c.write_sheet.ensures _ c.changed_gates-changed.ensures _ c.with_changed.ensures
+    c.write_sheet.result _ c.write_sheet.ensures _ c.changed_gates-changed.ensures _
+    (c.by_sheet.ensures ∙ c.with_changed.ensures _ _ ∙ ap (with_changed _) (plain_by_kind c.write_sheet.result))

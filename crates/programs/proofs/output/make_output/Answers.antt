@@ -4,6 +4,7 @@ use Rattle.rules.specs.Limits.{most_inputs, most_cells, most_settled}
 use Rattle.rules.specs.Groups.Marks.{marks_length}
 use Rattle.rules.specs.Calls.Settling.{Made, make_call}
 use Rattle.rules.specs.Calls.Programs.{program_output, zeros, make_program}
+use Rattle.settling.specs.Answered.{plain_by_kind}
 use Rattle.programs.specs.Prints.{Prints}
 use Rattle.programs.proofs.output.make_output.Goals as goal
 
@@ -13,4 +14,4 @@ returns c =
     let printed = c.output_of.result in
     subst (λ (made : Made). Prints printed.bytes printed.length (program_output made.answer made.output))
     (c.make-answer.ensures ∙ ap (λ s. make_call s (zeros most_cells) (zeros (marks_length most_inputs)) (zeros most_settled)) c.first_read.ensures)
-    c.output_of.ensures
+    (rw plain_by_kind at c.output_of.ensures)
