@@ -64,7 +64,8 @@ pub fn is_repeated(s: &[u8], header: Header, count: usize, w: &[u8]) -> bool
     requires { (count ≤ most_inputs) × NamesHeld s.now header count }
     ensures { result ≡ any (same w.now) (map (name_in s.now header) (range 0 count)) }
 {
-    // The header is read in place: `name_of` takes it by value, and with a copy for each pair of names a call on 12 inputs takes up to a third more instructions.
+    // The header is read in place: `name_of` takes it by value, and with a copy for each pair of names a call on 12 inputs takes up to a third more
+    // instructions.
     for i in 0..count {
         let start = header.starts[i];
         let end = start + header.lens[i] as usize;
