@@ -32,7 +32,7 @@ pub fn class_firsts(
     ensures { Front (take enough (classes_over (ink_in cells.now) ys.now xs.now)) result firsts.new }
 {
     let mut count: usize = 0;
-    // By its index: going over `xs` itself takes a fifth more instructions, and counting the classes of 12 inputs of two levels a third more time.
+    // By its index: going over `xs` itself, `sitgurp_multiplicity` of all of 12 inputs of two levels takes 5 % more instructions.
     for i in 0..xs.len() {
         if count == enough {
             return count;
